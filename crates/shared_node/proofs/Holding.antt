@@ -197,7 +197,8 @@ module _ {D : Type 0} (life : D → Life) (pass : Pass) (wished : Wished) (wishe
       })
       (λ waits.
       let both : Some (Some (count_at w)) ≡ Some (Some (record { conversation = pass.conversation; calls = pass.count + 1 })) = sym known ∙ waits.1.counted in
-      let counts : w.count ≡ pass.count + 1 = cc both in
+      let same : count_at w ≡ record { conversation = pass.conversation; calls = pass.count + 1 } = cc both in
+      let counts : w.count ≡ pass.count + 1 = ap (λ (c : Count). c.calls) same in
       absurd (omega (arith, counts, count)))
       s.known)
       (λ (never : NoneAt g.members pass.place).

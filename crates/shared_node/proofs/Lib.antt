@@ -1,3 +1,4 @@
+pub mod Asking
 pub mod Holding
 pub mod Sending
 pub mod Turning

@@ -167,6 +167,22 @@ module _ {D : Type 0} (modelled : Bool) (life : D → Life) where
         let owns : Owns between pass call (Answered a) behind after = inr (wished, is, c) in
         turns found between behind pass after call (Answered a) waited owns (λ says. own_failed between behind pass after call a kept owns says)
 
+    -- ---- the same, where nothing was left at first
+
+    pub asked_at_last : (found first between same behind : Told D) (pass early too after : Pass) (wished : Wished) (call : Call) (acted : Acted) → IsKept modelled life found → IsKept modelled life between
+        → CollectsNothing found pass wished first early → MayFulfil life first between → (Stands first early wished → Stands between early wished) → CollectsNothing between early wished same too
+        → Acts modelled life same too call acted behind after → TakesTurn modelled life pass call acted after found behind
+    asked_at_last found first between same behind pass early too after wished call acted was kept before waited stands none acts =
+        asked_behind found between same behind pass too after wished call acted was kept (subst (λ (t : Told D). MayFulfil life t between) before.book waited)
+        (subst (λ (t : Told D). Stands t pass wished → Stands between pass wished) before.book (subst (λ (p : Pass). Stands first p wished → Stands between p wished) before.same stands))
+        (subst (λ (p : Pass). CollectsNothing between p wished same too) before.same none) acts
+
+    pub collected_at_last : (found first between behind : Told D) (pass early after : Pass) (wished : Wished) (call : Call) (a : _) → IsKept modelled life between → CollectsNothing found pass wished first early
+        → MayFulfil life first between → call ≡ call_wished wished → Collects between early wished (answer_of a) behind after → TakesTurn modelled life pass call (Answered a) after found behind
+    collected_at_last found first between behind pass early after wished call a kept before waited is c =
+        collected_behind found between behind pass after wished call a kept (subst (λ (t : Told D). MayFulfil life t between) before.book waited) is
+        (subst (λ (p : Pass). Collects between p wished (answer_of a) behind after) before.same c)
+
   -- ---- a checkpoint behind it
 
   cause_on : (found mid left : Told D) (pass : Pass) (acted : Acted) → (mid.core.is_failed ≡ true → left.core.is_failed ≡ true) → HasCause found pass acted mid → HasCause found pass acted left
