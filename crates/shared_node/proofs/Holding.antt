@@ -170,7 +170,7 @@ module _ {D : Type 0} (life : D → Life) (pass : Pass) (wished : Wished) (wishe
   stands_on phase a b (inl n) s = subst (λ (t : Told D). Stands t pass wished) (sym n.book) (record { as_many = s.as_many; known = ⊎_elim (λ k. inl k) (λ w. inr (w.0, record { counted = w.1.counted; left = w.1.left })) s.known })
   stands_on phase a b (inr g) s =
       let as_many : length b.left ≡ length b.places =
-          ap (λ (ls : List (Option Left)). length ls) g.left ∙ left_length g.has_failed g.members a.left ∙ s.as_many ∙ sym (ap (λ (ps : List (Option Count)). length ps) g.places ∙ counted_length g.members a.places) in
+      ap (λ (ls : List (Option Left)). length ls) g.left ∙ left_length g.has_failed g.members a.left ∙ s.as_many ∙ sym (ap (λ (ps : List (Option Count)). length ps) g.places ∙ counted_length g.members a.places) in
       ⊎_elim
       (λ (one : OneAt g.members pass.place).
       let (at, w, is, here) = one in

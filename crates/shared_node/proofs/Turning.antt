@@ -77,8 +77,7 @@ module _ {D : Type 0} (modelled : Bool) (life : D → Life) where
   )
   own_goes between behind pass after call (Answered a) (inl (inr f)) = ([], goes_core between behind behind.core f.nothing.book, inl refl)
   own_goes between behind pass after call (Answered a) (inr c) =
-      let book = c.2.book in
-      (
+      let book = c.2.book in (
         [],
         record {
           calls = ap (λ (t : Told D). t.calls) book ∙ sym (append-nil between.calls);
