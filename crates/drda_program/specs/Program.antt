@@ -24,7 +24,7 @@ use Rattle.drda_program.specs.Reporting.{result_for}
 use Rattle.store_files.specs.Files.{FileCalls}
 use Rattle.drda_server.specs.Network.{NetworkCalls}
 use Rattle.store_files.specs.Opening.{IsMade, IsOver, IsTurnedBack, OpensStore}
-use Rattle.drda_server.specs.Listening.{Listens}
+use Rattle.drda_server.specs.Serving.{Seen, ServesFile, Surroundings, seen, settings_of}
 use Rattle.drda_program.specs.LoggingIn.{LogsIn, net_and_out}
 use Rattle.told_stores.specs.Dumps.{Dumps, ListsTables}
 use Rattle.told_stores.specs.Telling.{Checks, Lists, TellsRoom}
@@ -133,7 +133,7 @@ module _ {F D N L S W : Type 0} (around : Surroundings F D N L S W) where
   Does (Some (pipe path rdb source)) input old outcome new = LogsIn around.files source old.files old.out outcome new.files new.out (λ login files.
       PipesOver around.modelled around.life around.files path rdb login files input old.out outcome new.files new.out) × (new.net ≡ old.net)
   Does (Some (serve path port source options)) input old outcome new = LogsIn around.files source old.files (net_and_out old.net old.out) outcome new.files (net_and_out new.net new.out) (λ login files.
-      ServesFile path port login options (seen files old.net old.out) outcome new)
+      ServesFile around path port login options (seen files old.net old.out) outcome new)
   Does (Some (in_doubt path)) input old outcome new = Lists around.modelled around.life around.files path old.files old.out outcome new.files new.out × (new.net ≡ old.net)
   Does (Some (job.decide path xid d)) input old outcome new = DecidesFile around.modelled around.life around.files path xid d old.files old.out outcome new.files new.out × (new.net ≡ old.net)
   Does (Some (job.room path)) input old outcome new = TellsRoom around.modelled around.life around.files path old.files old.out outcome new.files new.out × (new.net ≡ old.net)
