@@ -3,7 +3,6 @@ pub mod Failing
 pub mod Leading
 pub mod Leaving
 pub mod Listed
-pub mod Marks
 pub mod Members
 pub mod Opening
 pub mod Sending

@@ -8,7 +8,7 @@ use Rattle.durable_core.specs.contracts.durable.DurableCore as core
 use Rattle.durable_core.proofs.durable.DurableCore.TheSendSync as core_sends
 use Rattle.core_history.specs.contracts.book.Book as book
 use Rattle.core_history.specs.contracts.book.Book.TheInside as inside
-use Rattle.call_list.proofs.calls.CallList.TheSendSync as calls_sends
+use Rattle.core_history.proofs.calls.CallList.TheSendSync as calls_sends
 use Rattle.std.specs.contracts.option.Option as option
 use Rattle.std.proofs.option.Option.TheSendSync as option_sends
 use Rattle.core_history.specs.contracts.count.Count as count

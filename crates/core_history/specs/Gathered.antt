@@ -58,9 +58,9 @@ pub record IsMember (places : List (Option Count)) (wishes : List Wish) (wish : 
   pub known : slice_get places wish.place ≡ Some (Some (count_at wish))
   pub numbered : wish.count + 2 < 2 ^ 64
 
--- a wish for the pass's next call is this one
+-- a wish at the pass's place is that it waits to ask this as its next call
 abbrev pub Agrees : Pass → Wished → Wish → Type 0
-Agrees pass wished wish = wish.conversation ≡ pass.conversation → wish.count ≡ pass.count → wish.place ≡ pass.place → wish.wished ≡ wished
+Agrees pass wished wish = wish.place ≡ pass.place → (wish.conversation ≡ pass.conversation) × (wish.count ≡ pass.count) × (wish.wished ≡ wished)
 
 abbrev pub AreMembers : List (Option Count) → List Wish → List Wish → Type 0
 AreMembers places wishes members = (at : ℕ) (wish : Wish) → slice_get members at ≡ Some wish → IsMember places wishes wish

@@ -3,7 +3,7 @@
 use crate::acted::Acted;
 use crate::asking::{ask, is_done};
 use crate::book::Book;
-use call_list::CallList;
+use crate::calls::CallList;
 use crate::chosen::Chosen;
 use crate::count::Count;
 use crate::listing::list;

@@ -1,6 +1,6 @@
 //! The book.
 
-use call_list::CallList;
+use crate::calls::CallList;
 use crate::chosen::Chosen;
 use crate::count::Count;
 use crate::left::Left;

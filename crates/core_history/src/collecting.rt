@@ -3,7 +3,7 @@
 use crate::book::Book;
 use crate::count::Count;
 use crate::left::Left;
-use crate::listing::{answer_left, note_wish};
+use crate::listing::answer_left;
 use crate::pass::Pass;
 use crate::wish::Wished;
 use core_calls::Answer;
@@ -80,6 +80,6 @@ fn show(pass: &mut Pass, wished: &Wished, has_failed: bool)
     ensures conversation { pass.new.conversation ≡ pass.old.conversation }
     ensures place { pass.new.place ≡ pass.old.place }
 {
-    note_wish(&mut pass.calls, pass.conversation, wished, has_failed);
+    pass.calls.note_wish(pass.conversation, wished, has_failed);
     pass.count += 1;
 }

@@ -10,13 +10,12 @@ ghost use Rattle.core_history.specs.LeftAnswers.{AreLeft, FailuresAreTrue};
 ghost use Rattle.core_history.specs.Wishes.{answer_wished, listed_wish};
 ghost use Rattle.core_history.specs.Passes.{calls_in, count_of};
 
-use call_list::CallList;
+use crate::calls::CallList;
 use crate::count::Count;
 use crate::left::Left;
 use crate::pass::Pass;
 use crate::wish::{Wish, Wished};
 use core_calls::{Answer, CoreCall};
-use xa_calls::Request;
 
 /// Lists a call, which is one more of its conversation and of its pass.
 pub(crate) fn list(
@@ -92,7 +91,7 @@ fn list_one(
     ensures are_left { (next : _) → AreCounted calls.old.listed places.old.items next → AreLeft calls.old.listed left.old.items → AreLeft calls.new.listed left.new.items }
     ensures failures { (is_failed : _) → (has_failed ≡ true → is_failed ≡ true) → FailuresAreTrue is_failed left.old.items → FailuresAreTrue is_failed left.new.items }
 {
-    note_wish(calls, member.conversation, &member.wished, has_failed);
+    calls.note_wish(member.conversation, &member.wished, has_failed);
     places[member.place] = Some(Count {
         conversation: member.conversation,
         calls: member.count + 1,
@@ -103,23 +102,6 @@ fn list_one(
         wished: member.wished,
         has_failed,
     });
-}
-
-/// Notes a call more, that was wished for and made together with others.
-#[tactic(auto, using(crate::proofs::Marks::mark_of))]
-pub(crate) fn note_wish(calls: &mut CallList, conversation: u64, wished: &Wished, has_failed: bool)
-    ensures { calls.new.listed ≡ calls.old.listed ++ listed_wish conversation wished.now has_failed ∷ [] }
-{
-    let answer = answer_left(wished, has_failed);
-    match wished {
-        Wished::Commit => calls.note(conversation, &CoreCall::Commit, &answer, !has_failed),
-        Wished::Through(phase, xid) => calls.note(
-            conversation,
-            &CoreCall::Xa(Ok(Request::Branch(phase.verb(), *xid))),
-            &answer,
-            !has_failed,
-        ),
-    }
 }
 
 /// What a call is answered that was wished for and made together with others.

@@ -1,6 +1,6 @@
 //! Leave for one conversation's calls.
 
-use call_list::CallList;
+use crate::calls::CallList;
 use crate::wish::{Wish, Wished};
 
 /// Leave for the calls of one conversation of a book. It counts those that were listed, and shows them to
@@ -38,14 +38,14 @@ impl Pass {
         self.count
     }
 
-    /// Whether a wish is for another call than this pass's next one, or is what it waits to ask.
+    /// Whether a wish is at another place, or is that this pass's conversation waits to ask this as its next call.
     pub fn agrees(&self, wish: &Wish, wished: &Wished) -> bool
         ensures { result ≡ true → Agrees self.now wished.now wish.now }
     {
-        wish.conversation != self.conversation
-            || wish.count != self.count
-            || wish.place != self.place
-            || wish.wished.is_same(wished)
+        wish.place != self.place
+            || wish.conversation == self.conversation
+                && wish.count == self.count
+                && wish.wished.is_same(wished)
     }
 
     /// That its conversation waits to ask this as its next call.

@@ -1,1 +1,5 @@
+pub mod Asking
+pub mod Holding
 pub mod Sending
+pub mod Turning
+pub mod Usable

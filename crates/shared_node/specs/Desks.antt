@@ -33,13 +33,13 @@ DeskActs old call (Answered a) new = DeskShows old call (answer_of a) new
 DeskActs old call StrangerPass new = new ≡ old
 
 -- what is answered
-abbrev pub told : Acted → Answer
-told (Answered a) = answer_of a
-told StrangerPass = closed
+abbrev pub answer_told : Acted → Answer
+answer_told (Answered a) = answer_of a
+answer_told StrangerPass = closed
 
 -- the answer is that of a turn at the lock, in which the call was made on the book that was found; and the pass shows it
 pub record DeskAsks {D : Type 0} (modelled : Bool) (life : D → Life) (old : Pass) (call : Call) (answer : Answer) (new : Pass) : Type 0 where
   pub shows : DeskShows old call answer new
   pub acted : Acted
-  pub answer_is : answer ≡ told acted
+  pub answer_is : answer ≡ answer_told acted
   pub turn : UnderLock modelled life (TakesTurn modelled life old call acted new)

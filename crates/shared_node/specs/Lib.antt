@@ -1,4 +1,6 @@
 pub mod Locked
+pub mod Standing
 pub mod Turns
 pub mod Desks
 pub mod Served
+pub mod Closing

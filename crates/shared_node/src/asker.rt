@@ -106,10 +106,7 @@ impl<'a, D: Disk, R: Wait + Clock, G: Gate> Ask for Asker<'a, D, R, G> {
                 waiting.go(self.rt);
             }
             let begun = Begun::new(self.rt, came, &held.book);
-            let acted = held.act(self.rt, waiting, &mut self.pass, call, &wished);
-            if matches!(*call, CoreCall::Lost) {
-                held.book.consider_checkpoint();
-            }
+            let acted = held.take_turn(self.rt, waiting, &mut self.pass, call, &wished);
             (acted, begun.end(self.rt, &held.book))
         };
         if leads {
@@ -118,9 +115,20 @@ impl<'a, D: Disk, R: Wait + Clock, G: Gate> Ask for Asker<'a, D, R, G> {
         self.waited = self.waited.max(turn.waited);
         self.held = self.held.max(turn.held);
         self.gate.after(self.pass.conversation(), &turn);
-        match acted {
-            Acted::Answered(answer) => answer,
-            Acted::StrangerPass => Answer::Closed,
-        }
+        told(acted)
+    }
+}
+
+ghost use Rattle.std.specs.Prelude.{◌≡◌};
+ghost use Rattle.core_calls.specs.Answer.{answer_of};
+ghost use Rattle.shared_node.specs.Desks.{answer_told};
+
+// What is answered.
+fn told(acted: Acted) -> Answer
+    ensures { answer_of result ≡ answer_told acted }
+{
+    match acted {
+        Acted::Answered(answer) => answer,
+        Acted::StrangerPass => Answer::Closed,
     }
 }

@@ -68,12 +68,8 @@ impl<'a, D: Disk, R: Wait + Clock, G: Gate> Desk<'a, D, R, G> {
         ensures served { IfSome (I.remaining reader.old) (λ input. IsServed (DeskAsks D.is_modelled D.life) settings.now self.entry.pass input (O.contents writer.old) result.served (O.contents writer.new) result.pass) }
         ensures lost { IsLost (DeskAsks D.is_modelled D.life) self.entry.pass result.served result.pass }
     {
-        stays_read();
         let mut asker = Asker::new(self.rt, self.shared, self.gate, self.pass);
-        let served = match Front::new(alloc, settings) {
-            Ok(mut front) => serve(alloc, &mut front, reader, writer, &mut asker),
-            Err(_) => Served::NoMemory,
-        };
+        let served = serve_asker(alloc, settings, &mut asker, reader, writer);
         let (longest_wait, longest_hold) = asker.longest();
         Ended {
             pass: asker.into_pass(),
@@ -81,5 +77,23 @@ impl<'a, D: Disk, R: Wait + Clock, G: Gate> Desk<'a, D, R, G> {
             longest_wait,
             longest_hold,
         }
+    }
+}
+
+// The same, for who asks.
+fn serve_asker<'a, D: Disk, R: Wait + Clock, G: Gate, I: Read, O: Write>(
+    alloc: Global,
+    settings: &Settings,
+    asker: &mut Asker<'a, D, R, G>,
+    reader: &mut I,
+    writer: &mut O,
+) -> Served
+    ensures served { IfSome (I.remaining reader.old) (λ input. IsServed (DeskAsks D.is_modelled D.life) settings.now asker.old input (O.contents writer.old) result (O.contents writer.new) asker.new) }
+    ensures lost { IsLost (DeskAsks D.is_modelled D.life) asker.old result asker.new }
+{
+    stays_read();
+    match Front::new(alloc, settings) {
+        Ok(mut front) => serve(alloc, &mut front, reader, writer, asker),
+        Err(_) => Served::NoMemory,
     }
 }

@@ -1,12 +1,11 @@
 //! What lies under the lock.
 
-use core_history::Acted;
-use core_history::Book;
-use core_history::Pass;
 use crate::waiting::Waiting;
-use core_history::{Wish, Wished};
 use core_calls::CoreCall;
+use core_history::{Acted, Book, Pass, Wish, Wished};
 use drda_disk::Disk;
+use recovery::images::calls_go_on;
+use serializability::answers::answers_belong_to_calls;
 use std::sync::Wait;
 use unit_records::Phase;
 use xa_manager::Decision;
@@ -18,23 +17,18 @@ pub(crate) struct Held<D: Disk> {
     pub(crate) wishes: Vec<Wish>,
 }
 
-// What is made together, one kind behind the other: commits, and each phase of two-phase commit.
-const KINDS: [Option<Phase>; 4] = [
-    None,
-    Some(Phase::Prepare),
-    Some(Phase::Decide(Decision::Commit)),
-    Some(Phase::Decide(Decision::RollBack)),
-];
-
 impl<D: Disk> Held<D> {
     ghost use Rattle.std.specs.Prelude.{◌≡◌, Some};
     ghost use Rattle.core_calls.specs.Call.{call_of};
-    ghost use Rattle.shared_node.specs.Desks.{DeskActs};
+    ghost use Rattle.core_history.specs.Books.{IsKept};
     ghost use Rattle.core_history.specs.Wishes.{call_wished};
+    ghost use Rattle.recovery.specs.Journaled.{Journaled, shown_on};
+    ghost use Rattle.shared_node.specs.Desks.{DeskActs};
+    ghost use Rattle.shared_node.specs.Standing.{Stands};
+    ghost use Rattle.shared_node.specs.Turns.{MayFulfil, TakesTurn};
 
-    /// Does one call of a pass. What was wished for may have been made with others' calls meanwhile; else it is made with
-    /// those of all who wait; else alone.
-    pub(crate) fn act<R: Wait>(
+    /// Does one call of a pass, and behind a loss considers a checkpoint.
+    pub(crate) fn take_turn<R: Wait>(
         &mut self,
         rt: &R,
         waiting: &Waiting,
@@ -43,27 +37,112 @@ impl<D: Disk> Held<D> {
         wished: &Option<Wished>,
     ) -> Acted
         requires { (w : _) → wished.now ≡ Some w → call_of call.now ≡ call_wished w }
-        ensures { DeskActs pass.old (call_of call.now) result pass.new }
+        ensures shows { DeskActs pass.old (call_of call.now) result pass.new }
+        ensures turn { TakesTurn D.is_modelled D.life pass.old (call_of call.now) result pass.new self.old.book self.new.book }
+        ensures was_kept { IsKept D.is_modelled D.life self.old.book }
+        ensures is_kept { IsKept D.is_modelled D.life self.new.book }
+        ensures journaled { Journaled D.is_modelled (shown_on D.life self.old.book.core) (shown_on D.life self.new.book.core) }
     {
+        calls_go_on::<D>();
+        self.book.is_kept();
+        let acted = self.act(rt, waiting, pass, call, wished);
+        rest_behind(&mut self.book, call);
+        self.book.is_kept();
+        acted
+    }
+
+    // Does one call of a pass. What was wished for may have been made with others' calls meanwhile; else it is made with
+    // those of all who wait; else alone.
+    fn act<R: Wait>(
+        &mut self,
+        rt: &R,
+        waiting: &Waiting,
+        pass: &mut Pass,
+        call: &CoreCall<'_, '_, '_>,
+        wished: &Option<Wished>,
+    ) -> Acted
+        requires { (w : _) → wished.now ≡ Some w → call_of call.now ≡ call_wished w }
+        ensures shows { DeskActs pass.old (call_of call.now) result pass.new }
+        ensures turn { TakesTurn D.is_modelled D.life pass.old (call_of call.now) result pass.new self.old.book self.new.book }
+        ensures journaled { Journaled D.is_modelled (shown_on D.life self.old.book.core) (shown_on D.life self.new.book.core) }
+    {
+        calls_go_on::<D>();
+        answers_belong_to_calls();
+        self.book.is_kept();
         let Some(wished) = wished else {
             return self.book.act(pass, call);
         };
         if let Some(answer) = self.book.collect(pass, wished) {
             return Acted::Answered(answer);
         }
-        self.fulfil(rt, waiting);
+        self.fulfil(rt, waiting, pass, wished);
+        self.book.is_kept();
         if let Some(answer) = self.book.collect(pass, wished) {
             return Acted::Answered(answer);
         }
         self.book.act(pass, call)
     }
 
-    // Makes together what is wished for, for all who wait.
-    fn fulfil<R: Wait>(&mut self, rt: &R, waiting: &Waiting) {
+    // Makes together what is wished for, for all who wait; nothing, where a wish at the pass's place is none of its own.
+    fn fulfil<R: Wait>(&mut self, rt: &R, waiting: &Waiting, pass: &Pass, wished: &Wished)
+        ensures fulfils { MayFulfil D.life self.old.book self.new.book }
+        ensures stands { Stands self.old.book pass.now wished.now → Stands self.new.book pass.now wished.now }
+        ensures journaled { Journaled D.is_modelled (shown_on D.life self.old.book.core) (shown_on D.life self.new.book.core) }
+    {
         waiting.take(rt, &mut self.wishes);
-        for kind in KINDS {
-            self.book.make_together(kind, &self.wishes);
-        }
+        fulfil_where_fair(&mut self.book, &self.wishes, pass, wished);
         self.wishes.clear();
     }
+}
+
+ghost use Rattle.std.specs.Prelude.{◌≡◌, Some, slice_get, true};
+ghost use Rattle.core_history.specs.Gathered.{Agrees};
+ghost use Rattle.core_history.specs.Passes.{Rests};
+ghost use Rattle.recovery.specs.Journaled.{Journaled, shown_on};
+ghost use Rattle.shared_node.specs.Standing.{Stands};
+ghost use Rattle.shared_node.specs.Turns.{Fulfils, MayFulfil};
+
+// Behind a loss a checkpoint is considered.
+fn rest_behind<D: Disk>(book: &mut Book<D>, call: &CoreCall<'_, '_, '_>)
+    ensures rests { Rests book.old.core book.new.core }
+    ensures rest { book.new ≡ record book.old { core = book.new.core } }
+    ensures journaled { Journaled D.is_modelled (shown_on D.life book.old.core) (shown_on D.life book.new.core) }
+{
+    calls_go_on::<D>();
+    book.core().is_durable();
+    if matches!(*call, CoreCall::Lost) {
+        book.consider_checkpoint();
+    }
+}
+
+// Whether each wish at the pass's place is its own.
+fn are_fair(wishes: &[Wish], pass: &Pass, wished: &Wished) -> bool
+    ensures { result ≡ true → (at : _) (wish : _) → slice_get wishes.now at ≡ Some wish → Agrees pass.now wished.now wish }
+{
+    wishes.iter().all(|wish| pass.agrees(wish, wished))
+}
+
+// Makes together what is wished for, where each wish at the pass's place is its own.
+fn fulfil_where_fair<D: Disk>(book: &mut Book<D>, wishes: &[Wish], pass: &Pass, wished: &Wished)
+    ensures fulfils { MayFulfil D.life book.old book.new }
+    ensures stands { Stands book.old pass.now wished.now → Stands book.new pass.now wished.now }
+    ensures journaled { Journaled D.is_modelled (shown_on D.life book.old.core) (shown_on D.life book.new.core) }
+{
+    calls_go_on::<D>();
+    book.core().is_durable();
+    if are_fair(wishes, pass, wished) {
+        fulfil_kinds(book, wishes);
+    }
+}
+
+// Makes together what is wished for, one kind behind the other: commits, and each phase of two-phase commit.
+fn fulfil_kinds<D: Disk>(book: &mut Book<D>, wishes: &[Wish])
+    ensures fulfils { Fulfils D.life wishes.now book.old book.new }
+    ensures journaled { Journaled D.is_modelled (shown_on D.life book.old.core) (shown_on D.life book.new.core) }
+{
+    calls_go_on::<D>();
+    book.make_together(None, wishes);
+    book.make_together(Some(Phase::Prepare), wishes);
+    book.make_together(Some(Phase::Decide(Decision::Commit)), wishes);
+    book.make_together(Some(Phase::Decide(Decision::RollBack)), wishes);
 }

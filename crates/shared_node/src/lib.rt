@@ -2,6 +2,7 @@
 #![tactic(auto)]
 
 mod asker;
+pub mod closing;
 mod desk;
 mod gate;
 mod held;

@@ -1,11 +1,9 @@
 //! A book under a lock.
 
-use core_history::Book;
 use crate::held::Held;
-use core_history::PLACES;
-use core_history::Pass;
 use crate::turn::{Begun, Turn, time};
 use crate::waiting::Waiting;
+use core_history::{Book, PLACES, Pass};
 use drda_disk::Disk;
 use durable_core::DurableCore;
 use std::alloc::Global;

@@ -1,7 +1,6 @@
 //! Who waits to be served together.
 
-use core_history::PLACES;
-use core_history::Wish;
+use core_history::{PLACES, Wish};
 use std::alloc::{AllocError, Global};
 use std::mem::swap;
 use std::sync::atomic::{AtomicU64, Ordering};

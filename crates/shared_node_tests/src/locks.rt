@@ -2,14 +2,13 @@
 
 use crate::books::{Core, place_of};
 use crate::tallies::{Tally, Told};
-use command_kit::Ask;
-use core_calls::{Answer, CoreCall};
+use conversation::Settings;
 use drda_disk::{FuseDisk, MemDisk};
 use shared_node::{Desk, Pass, Shared};
-use sql_text::parse;
 use std::alloc::Global;
 use std::sync::Wait;
 use std::time::Clock;
+use test_bytes::{bytes_of, push_texts};
 use test_calls::push_text;
 
 /// A book under a lock, and passes in the order in which they were given, from 1 on.
@@ -20,35 +19,45 @@ pub struct Locks {
     passes: Vec<Option<Pass>>,
 }
 
-// Makes a table.
-fn create<A: Ask>(alloc: Global, desk: &mut A) -> Option<()> {
-    let statement = match parse(
-        alloc,
-        "CREATE TABLE T (K INTEGER NOT NULL, PRIMARY KEY (K))",
-    ) {
-        Ok(statement) => statement,
-        Err(_) => return None,
-    };
-    let _ = desk.ask(&CoreCall::Run {
-        statement: &statement,
-        parameters: &[],
-    });
-    Some(())
+// What a conversation says as it opens the database, and how it makes a table and commits: EXCSAT, ACCSEC, SECCHK and ACCRDB;
+// EXCSQLIMM with CREATE TABLE T (K INTEGER NOT NULL, PRIMARY KEY (K)); RDBCMM.
+const OPEN: [&str; 4] = [
+    "001E D001 0001 0018 1041 0014 1404 2407 0007 1C01 0007 1C08 04B8 14C0 0005",
+    "0026 D001 0002 0020 106D 0006 11A2 0003 0016 2110 E2C8D6D7 40*14",
+    "001D D001 0003 0017 106E 0006 11A2 0003 0007 11A0 616E61 0006 11A1 7077",
+    "002D D001 0004 0027 2001 0016 2110 53484F50 20*14 000D 002F 51544453514C415343",
+];
+const CREATE: [&str; 2] = [
+    "000A D051 0006 0004 200A",
+    "0044 D003 0006 003E 2414 00 00000034 435245415445205441424C452054 20 284B 20 494E5445474552 20 4E4F54 20 4E554C4C 2C 20 5052494D415259 20 4B4559 20 284B2929 FF",
+];
+const COMMIT: [&str; 1] = ["000A D001 0006 0004 200E"];
+
+// What a conversation says that commits so many times, and where it `writes` makes a table before.
+fn said(alloc: Global, writes: bool, times: u64) -> Option<Vec<u8>> {
+    let mut bytes = bytes_of(alloc, &OPEN).ok()?;
+    if writes {
+        push_texts(&mut bytes, &CREATE).ok()?;
+    }
+    for _ in 0..times {
+        push_texts(&mut bytes, &COMMIT).ok()?;
+    }
+    Some(bytes)
 }
 
-// How many of so many commits are done.
-fn commits<A: Ask>(desk: &mut A, times: u64) -> u64 {
-    let mut done = 0_u64;
-    for _ in 0..times {
-        if let Answer::Done = desk.ask(&CoreCall::Commit) {
-            done = done.saturating_add(1);
+// How many commits these replies tell: ENDUOWRM.
+fn ends_in(replies: &[u8]) -> u64 {
+    let mut ends = 0_u64;
+    for at in 1..replies.len() {
+        if replies[at - 1] == 0x22 && replies[at] == 0x0C {
+            ends = ends.saturating_add(1);
         }
     }
-    done
+    ends
 }
 
 // The pass of one conversation more that commits so many times, how many of the commits were done, and what was told of its turns. Where
-// it `writes`, it has made a table before, and is lost then. None where there is no leave.
+// it `writes`, it has made a table before. None where there is no leave.
 fn hold<R: Wait + Clock>(
     rt: &R,
     alloc: Global,
@@ -56,16 +65,14 @@ fn hold<R: Wait + Clock>(
     writes: bool,
     times: u64,
 ) -> Option<(Pass, u64, Told)> {
+    let settings = Settings::new(alloc, "ana", "pw", "SHOP").ok()?;
+    let said = said(alloc, writes, times)?;
     let tally = Tally::new();
-    let mut desk = Desk::new(rt, shared, &tally, shared.admit(rt)?);
-    if writes {
-        create(alloc, &mut desk)?;
-    }
-    let done = commits(&mut desk, times);
-    if writes {
-        let _ = desk.ask(&CoreCall::Lost);
-    }
-    Some((desk.into_pass(), done, tally.told()))
+    let desk = Desk::new(rt, shared, &tally, shared.admit(rt)?);
+    let mut reader = said.as_slice();
+    let mut replies = Vec::new(alloc);
+    let ended = desk.serve(alloc, &settings, &mut reader, &mut replies);
+    Some((ended.pass, ends_in(&replies), tally.told()))
 }
 
 impl Locks {
@@ -152,7 +159,7 @@ impl Locks {
         format!(in self.alloc; "checkpoint: {is_written}, failed: {has_failed}").ok()
     }
 
-    /// `holds N` and `writes N` are conversations of so many commits, `back N` gives a pass back, `consider` considers a checkpoint, and `close N..`
+    /// `holds N` and `writes N` are conversations of so many commits, which end with a loss, `back N` gives a pass back, `consider` considers a checkpoint, and `close N..`
     /// closes the book with these passes.
     pub fn tell<R: Wait + Clock>(
         &mut self,

@@ -1,0 +1,13 @@
+use Rattle.std.proofs.Common.{subst}
+use Rattle.core_calls.specs.Call.{call_of}
+use Rattle.core_calls.specs.Answer.{answer_of}
+use Rattle.core_history.specs.declared.pass.Pass.{Pass}
+use Rattle.shared_node.specs.Desks.{DeskAsks}
+use Rattle.shared_node.proofs.Asking.{asked}
+use Rattle.shared_node.proofs.asker.AskerAsk.ask.Goals as goal
+
+pub returns : goal.returns
+returns g c =
+    subst (λ (p : Pass). DeskAsks {D = g.row.D.Denot} g.D.Disk.is_modelled g.D.Disk.life p (call_of c.args.call.now) (answer_of c.told.result) c.take_turn-acted.new.pass) c.self.view_is
+    (asked {D = g.row.D.Denot} g.D.Disk.is_modelled g.D.Disk.life c.deref_mut-held.result.now.book c.take_turn-acted.new.self.book c.self.inside.pass c.take_turn-acted.new.pass (call_of c.args.call.now) c.take_turn-acted.result (answer_of c.told.result)
+    c.told.ensures c.take_turn-acted.ensures.shows c.take_turn-acted.ensures.was_kept c.take_turn-acted.ensures.is_kept c.take_turn-acted.ensures.journaled c.take_turn-acted.ensures.turn)
