@@ -12,8 +12,7 @@ mod version;
 pub use drda_node::Ready;
 // What conversations come over, and who is told what becomes of them.
 pub use drda_server::{
-    ErrorLog, Log, Network, Notice, Outcome, Served, Silent, Streams, SystemNetwork, serve_at,
-    serve_streams,
+    ErrorLog, Log, Network, Notice, Outcome, Served, Silent, Streams, SystemNetwork, serve_streams,
 };
 pub use program::run_words;
 pub use store_files::{Fault, StoreFiles, SystemFiles};
