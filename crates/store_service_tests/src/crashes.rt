@@ -3,7 +3,7 @@
 use crate::inputs::{
     CREATE, CREATE_OTHER, ONE, ONE_OTHER, SIX_RECORDS, THREE, TWO, around_a_checkpoint, piece,
 };
-use drda_disk::{FuseDisk, MemDisk};
+use drda_disk::FuseDisk;
 use std::alloc::Global;
 use std::test::Fail;
 use store_service::{PlainState, RunEnd, run_store, survives};
@@ -11,18 +11,13 @@ use tables::TableView;
 use test_bytes::RDBCMM;
 use test_nodes::fresh_store;
 
-// The disk behind a run over this input, whose device fails behind so many calls.
-fn run_over(alloc: Global, input: &[u8], calls: u64) -> Option<FuseDisk<MemDisk>> {
-    let disk = FuseDisk::new(fresh_store(alloc)?, calls, false);
+// How many device calls an opening and a run over this input make.
+fn calls_of(alloc: Global, input: &[u8]) -> Option<u64> {
+    let disk = FuseDisk::new(fresh_store(alloc)?, u64::MAX, false);
     let mut reader = input;
     let mut written = Vec::new(alloc);
     let (disk, _end) = run_store(alloc, disk, "ana", "pw", &mut reader, &mut written);
-    Some(disk)
-}
-
-// How many device calls an opening and a run over this input make.
-fn calls_of(alloc: Global, input: &[u8]) -> Option<u64> {
-    Some(run_over(alloc, input, u64::MAX)?.calls())
+    Some(disk.calls())
 }
 
 // How many tables, rows and branches in doubt there are behind so many of the six records.
@@ -78,29 +73,6 @@ fn a_crash_leaves_the_first_records(rt: HostRuntime) -> Result<(), Fail> {
             is_whole && pick != 1 || has_next && pick != 0,
             "{calls} {pick}"
         );
-    }
-    Ok(())
-}
-
-// What is left of the disk of a server that was killed, whose last writes were not synced, behind an opening and a crash.
-fn reopened(alloc: Global, input: &[u8], calls: u64, pick: u64) -> Option<(usize, usize, usize)> {
-    let disk = run_over(alloc, input, calls)?.into_inner();
-    let none = piece(alloc, &[])?;
-    let (_, state) = survives(alloc, disk, u64::MAX, pick, "ana", "pw", &none);
-    shown(alloc, state.ok()?)
-}
-
-// An opening settles what is read, whatever a crash might have left before it: a record whose gate was written is there then,
-// though it was not synced.
-#[test]
-fn what_is_read_stays_behind_an_opening(rt: HostRuntime) -> Result<(), Fail> {
-    let none = piece(rt.alloc(), &[]).ok_or("memory")?;
-    let opening = calls_of(rt.alloc(), &none).ok_or("memory")?;
-    let input = piece(rt.alloc(), SIX_RECORDS).ok_or("memory")?;
-    for case in 0..50 {
-        let (calls, pick) = (case / 2, case % 2);
-        let left = reopened(rt.alloc(), &input, opening.saturating_add(calls), pick);
-        assert!(rt; are_there(left, (calls + 1) / 4), "{calls} {pick}");
     }
     Ok(())
 }
