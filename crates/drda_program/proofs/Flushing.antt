@@ -59,6 +59,7 @@ goes_kept modelled life core first input before mid now left end k goes = record
   journaled = goes.journaled;
   last = goes.last;
   core_is = goes.core_is;
+  history = goes.history;
   runs = kept_run first goes.last before mid now end input k goes.runs;
   stations = along_kept modelled life (first_station first core) goes.new before mid now input k goes.stations;
 }

@@ -1,5 +1,5 @@
 -- Event records over a store that is just made.
-use Rattle.std.proofs.Common.{◌≡◌, ◌∙◌, refl, sym, subst, ap₂, inl, inr, ℕ, Bool, true, false, List, Option, Some, None, IfSome, Result, Ok, Err}
+use Rattle.std.proofs.Common.{◌≡◌, ◌∙◌, refl, sym, subst, ap₂, inl, inr, ℕ, Bool, true, false, List, [], Option, Some, None, IfSome, Result, Ok, Err}
 use Rattle.drda_disk.specs.Disk.{Life}
 use Rattle.session_commands.specs.Settings.{Settings, is_rdb_name}
 use Rattle.half_store.specs.Fresh.{is_name}
@@ -47,7 +47,7 @@ not_piped D rdb login input before NoRoom is = absurd is
 -- what is started over it
 starts_fresh : {D : Type 0} (modelled : Bool) → modelled ≡ true → (name : List ℕ) (login : Login) (core : OnDisk D) → IsOpenedTo name fresh core → core.layout ≡ Two → machine_over modelled login core ≡ at_start (settings_of login name) (new_core core.room)
 starts_fresh modelled told name login core is two =
-    let opened_fresh : asked_of modelled core ≡ new_core core.room = λ i. record { is_told = told i; state = is.state i; layout = two i; room = core.room; has_failed = is.going i; made = is.made i } in
+    let opened_fresh : asked_of modelled core ≡ new_core core.room = λ i. record { is_told = told i; state = is.state i; layout = two i; room = core.room; has_failed = is.going i; made = is.made i; calls = [] } in
     ap₂ (λ (n : List ℕ) (a : AskedCore). at_start (settings_of login n) a) is.named opened_fresh
 
 fresh_run : (settings : Settings) (room : ℕ) (first last : Machine) (before now : Option (List ℕ)) (end : RunEnd) (o : Option (List ℕ)) → first ≡ at_start settings (new_core room)

@@ -1,7 +1,7 @@
 -- A run over the store of a path.
-use Rattle.std.proofs.Common.{◌≡◌, ◌+◌, ◌∙◌, arith, inl, inr, ℕ, Bool, List, Option, Some, Result, Ok, Err}
+use Rattle.std.proofs.Common.{◌≡◌, ◌+◌, ◌∙◌, arith, inl, inr, ℕ, Bool, false, IsTrue, List, Option, Some, Result, Ok, Err}
 use Rattle.drda_disk.specs.Disk.{Life}
-use Rattle.recovery.specs.Journaled.{OnDisk}
+use Rattle.recovery.specs.Journaled.{IsDurable, OnDisk, shown_on}
 use Rattle.recovery.specs.Openings.{ImagesAreSound}
 use Rattle.recovery.specs.StepLaws.{OpeningsAreKept}
 use Rattle.durable_core.specs.declared.errors.OpenError.{OpenError}
@@ -9,7 +9,7 @@ use Rattle.durable_core.specs.declared.errors.OpenError.TheVariants as error
 use Rattle.drda_node.specs.declared.serving.RunEnd.{RunEnd}
 use Rattle.store_service.specs.Running as store
 use Rattle.store_service.specs.Running.{GivesBack}
-use Rattle.store_service.proofs.Stores.{runs_over}
+use Rattle.store_service.proofs.Stores.{SerialLaws, runs_over}
 use Rattle.command_line.specs.Job.{Login}
 use Rattle.store_files.proofs.Found.{found}
 use Rattle.drda_program.proofs.Flushing.{goes_kept}
@@ -41,7 +41,8 @@ module _ {D : Type 0} (modelled : Bool) (life : D → Life) where
   answered core login input before mid now given outcome ran reports = ran_over core login input before mid now given.0 given.1 outcome ran reports
 
   module _ {F : Type 0} (calls : FileCalls F D) where
-    module _ (sound : ImagesAreSound) (kept : OpeningsAreKept) (path : List ℕ) (login : Login) (files files' : F) (input before now : Option (List ℕ)) (outcome : Result (Unit {0}) Fault) (core : OnDisk D) where
+    module _ (sound : ImagesAreSound) (kept : OpeningsAreKept) (laws : SerialLaws) (path : List ℕ) (login : Login) (files files' : F) (input before now : Option (List ℕ)) (outcome : Result (Unit {0}) Fault) (core : OnDisk D)
+        (durable : IsTrue modelled → core.is_failed ≡ false → IsDurable (shown_on life core)) where
       by_answer : (disk : D) → calls.opens files path (Some disk) files' → IsOver modelled life disk core → AnswersOver modelled life core login input before outcome now → PipesFile modelled life calls path login files input before outcome files' now
       by_answer disk opens over (inl (fault, is, refused, silent)) = inl (fault, is, inr (disk, opens, core, over, refused), silent)
       by_answer disk opens over (inr ran) = inr (
@@ -51,7 +52,9 @@ module _ {D : Type 0} (modelled : Bool) (life : D → Life) where
           core = core;
           over = over;
           ran = ran;
-          promise = λ name d is_store. runs_over modelled life sound kept name d login.user login.password disk is_store core (over.finds name d is_store.modelled_is is_store.opens) (over.stood is_store.modelled_is) over.stays over.quiet
+          promise = λ name d is_store.
+              let finds = over.finds name d is_store.modelled_is is_store.opens in
+              runs_over modelled life sound kept laws name d login.user login.password disk is_store core finds (over.stood is_store.modelled_is) over.stays (durable is_store.modelled_is finds.going).only over.quiet
               input before now ran.left (Ok ran.end) ran.goes;
         },
       )

@@ -36,7 +36,7 @@ use Rattle.store_files.specs.declared.fault.Fault.TheVariants.{BadArguments, Bad
 
 -- over a store in memory that was just made, of layout 2, with so many bytes for records
 abbrev pub new_core : ℕ → AskedCore
-new_core room = record { is_told = true; state = opened fresh; layout = Two; room = room; has_failed = false; made = none_made }
+new_core room = record { is_told = true; state = opened fresh; layout = Two; room = room; has_failed = false; made = none_made; calls = [] }
 
 -- a machine that is started with these settings over a fresh store has run over the input and ended so
 abbrev pub RunsFresh : Settings → List ℕ → Option (List ℕ) → RunEnd → Option (List ℕ) → Type 0

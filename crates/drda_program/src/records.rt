@@ -8,6 +8,8 @@ ghost use Rattle.drda_program.specs.Reporting.{Reports};
 
 use command_line::Login;
 use drda_disk::Disk;
+use drda_node::laws::calls_are_histories;
+use drda_node::serial::machines_are_serial;
 use drda_node::{DurableCore, Ready, RunEnd};
 use durable_core::OpenError;
 use recovery::openings::openings_begin_histories;
@@ -72,8 +74,13 @@ pub(crate) fn answer_file<F: StoreFiles, R: Read + Ready, W: Write>(
 {
     openings_begin_histories();
     openings_are_kept();
+    calls_are_histories();
+    machines_are_serial();
     match open_file(alloc, files, path) {
-        Ok(core) => answer_records(alloc, core, login, reader, out),
+        Ok(core) => {
+            core.is_durable();
+            answer_records(alloc, core, login, reader, out)
+        }
         Err(fault) => Err(fault),
     }
 }
