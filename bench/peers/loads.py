@@ -1,42 +1,45 @@
-"""Loads over many connections (load.c), and what several servers made of them: rates taken in turn by rounds, and told as medians of
+"""Loads over many connections (load.c, by drda.c or postgres.c), and what several servers made of them: rates taken in turn by rounds, and told as medians of
 the rates and of the ratios inside of each round."""
 import collections, os, pathlib, statistics, subprocess, sys
 
 TOP = pathlib.Path(__file__).resolve().parents[2]
 sys.path[:0] = [os.fspath(TOP / "tests"), os.fspath(TOP / "bench")]
-from drdad_tests.served import PASSWORD, RDB, USER, Server, program_of
+from served import PASSWORD, RDB, USER, Server, program_of
 
 WIDTHS = (1, 4, 16, 63)
 ROWS = 100_000
 OURS = "drdad"
-SOURCES = {"load": "peers/load.c", "echo": "serve/echo.c"}
+SOURCES = {"load": ("peers/load.c", "peers/drda.c", "peers/postgres.c"), "echo": ("serve/echo.c",), "slow.so": ("peers/slow.c",)}
 WAITS = 600
 
-Told = collections.namedtuple("Told", "rate median late sent back")
+Told = collections.namedtuple("Told", "rate median late latest sent back")
 
 
 def built(folder):
-    """The programs in C, by their names."""
+    """The programs in C, and what is laid before the C library of others, by their names."""
     paths = {name: f"{folder}/{name}" for name in SOURCES}
-    for name, source in SOURCES.items():
-        subprocess.run(["cc", "-O2", "-Wall", "-pthread", "-o", paths[name], TOP / "bench" / source], check=True)
+    for name, sources in SOURCES.items():
+        shared = ["-shared", "-fPIC"] if name.endswith(".so") else []
+        words = ["cc", "-O2", "-Wall", "-pthread", *shared, "-o", paths[name], *(TOP / "bench" / source for source in sources), "-ldl"]
+        subprocess.run(words, check=True)
     return paths
 
 
 class Load:
-    """Loads of one DRDA server."""
+    """Loads of one server; `commits` is the call of SYNCCTL that commits a branch there."""
 
-    def __init__(self, program, port, database="-", user="-", password="-"):
-        self.words = [program, str(port), database, user, password]
+    def __init__(self, program, port, database="-", user="-", password="-", commits=4):
+        self.words, self.commits = [program, str(port), database, user, password], commits
 
     def run(self, work, width=1, seconds=1, table="T"):
-        """What came of a load: exchanges a second, the median and the 99th hundredth of their microseconds, and the bytes that
-        an exchange sends and has back. Ends the script where a connection failed."""
+        """What came of a load: exchanges a second, the microseconds that 50, 99 and 99.9 of a hundred took at most, and the bytes
+        that an exchange sends and has back. Ends the script where a connection failed."""
+        work = f"branch:{self.commits}" if work == "branch" else work
         words = [*self.words, work, str(width), str(seconds), table, str(ROWS)]
         done = subprocess.run(words, capture_output=True, text=True, timeout=WAITS)
         if done.returncode:
             sys.exit(f"{work} over {width} connections: {done.stderr}")
-        return Told(*map(int, done.stdout.split()[:5])) if done.stdout else None
+        return Told(*map(int, done.stdout.split()[:len(Told._fields)])) if done.stdout else None
 
     def fill(self, *tables):
         """Makes the table T with its rows, and others without rows."""
@@ -63,9 +66,13 @@ class Rates:
         self.unit = unit
         self.found = collections.defaultdict(lambda: collections.defaultdict(list))
 
-    def add(self, work, width, rates):
+    def note(self, work, width, rates):
         for name, rate in rates.items():
             self.found[work, width][name].append(rate)
+
+    def add(self, work, width, rates):
+        """Notes them, and tells them at once."""
+        self.note(work, width, rates)
         with open("/proc/loadavg") as load:
             waiting = load.read().split()[0]
         told = ", ".join(f"{name} {rate:,.0f}" for name, rate in rates.items())
