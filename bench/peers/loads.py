@@ -4,7 +4,7 @@ import collections, os, pathlib, statistics, subprocess, sys
 
 TOP = pathlib.Path(__file__).resolve().parents[2]
 sys.path[:0] = [os.fspath(TOP / "tests"), os.fspath(TOP / "bench")]
-from served import PASSWORD, RDB, USER, Server, program_of
+from drdad_tests.served import PASSWORD, RDB, USER, Server, program_of
 
 WIDTHS = (1, 4, 16, 63)
 ROWS = 100_000
