@@ -24,7 +24,7 @@ test:
 gate:
 	@rt ci
 
-# Every edit there is, under must-fail/ and edits/; EDITS names crates, CRATE/EDIT, or --since COMMIT.
+# Every edit there is, under must-fail/ and edits/ of the crates; EDITS names crates, CRATE/EDIT, or --since COMMIT.
 edits:
 	@tools/try_edits $(EDITS)
 

@@ -20,7 +20,7 @@ IS_EDIT = re.compile(r"[\w*/]+")
 ONLY_A_NAME = re.compile(r"\b[a-z]+_\w+|\b[A-Z][a-z]+[A-Z]\w*")
 WORD = re.compile(r"\w+(?:[-']\w+)*")
 # Files beside the crates that a document may name.
-OTHERS = "tests/**/*", "tools/*", "bench/**/*", "edits/**/*", "crates/*/edits/*", "crates/*/must-fail/*", "Makefile", "crates.txt"
+OTHERS = "tests/**/*", "tools/*", "bench/**/*", "crates/*/edits/*", "crates/*/must-fail/*", "Makefile", "crates.txt"
 
 
 def text_of(path):

@@ -1,5 +1,5 @@
 """The crates of crates.txt, which of them something since a commit can have touched, and where their edits stand: those that the
-gate tries under crates/NAME/must-fail/, the others beside them under crates/NAME/edits/ (or edits/NAME/)."""
+gate tries under crates/NAME/must-fail/, the others beside them under crates/NAME/edits/."""
 import os, re, subprocess
 
 TOP = os.path.realpath(os.path.join(os.path.dirname(__file__), ".."))
@@ -33,14 +33,12 @@ def crates_now():
 def edit_of(file):
     """Which edits the file belongs to, those of the gate or the others, and its crate; or None where it is no edit's."""
     parts = file.split("/")
-    if parts[0] == "crates" and parts[2:3] in ([OF_GATE], [OTHERS]):
-        return parts[2], parts[1]
-    return (OTHERS, parts[1]) if parts[0] == OTHERS and len(parts) > 2 else None
+    return (parts[2], parts[1]) if parts[0] == "crates" and parts[2:3] in ([OF_GATE], [OTHERS]) else None
 
 
 def folders_of(name):
     """Where edits of a crate stand."""
-    return f"crates/{name}/{OF_GATE}", f"crates/{name}/{OTHERS}", f"{OTHERS}/{name}"
+    return f"crates/{name}/{OF_GATE}", f"crates/{name}/{OTHERS}"
 
 
 def touched(base, kinds):
@@ -88,7 +86,6 @@ def edits_of(name):
 
 
 def of_no_crate():
-    """What stands in edits/ and is no crate's folder."""
-    known = crates_now()
+    """What stands in edits/ at the top, and beside no crate."""
     names = sorted(os.listdir(f"{TOP}/edits")) if os.path.isdir(f"{TOP}/edits") else []
-    return [f"edits/{name}: it is named after no crate of crates.txt" for name in names if name not in known and not name.endswith(".md")]
+    return [f"edits/{name}: edits stand beside their crate, in crates/{name}/edits/" for name in names]
