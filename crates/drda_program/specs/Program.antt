@@ -1,5 +1,5 @@
 -- What the program does with its words, its files, its network and its streams.
-use Rattle.std.specs.Prelude.{◌≡◌, ◌≢◌, ◌⊎◌, ℕ, Bool, true, false, IsTrue, List, [], ◌∷◌, ◌++◌, length, take, codes, Option, Some, None, IfSome, Result, Ok, Err}
+use Rattle.std.specs.Prelude.{◌≡◌, ◌≢◌, ◌⊎◌, ℕ, Bool, true, false, List, [], ◌∷◌, ◌++◌, take, codes, Option, Some, None, IfSome, Result, Ok, Err}
 use Rattle.std.specs.Fmt.{decimal}
 use Rattle.std.specs.Io.KnownBytes.{Appends}
 use Rattle.drda_disk.specs.Disk.{Life}
@@ -9,7 +9,6 @@ use Rattle.half_store.specs.declared.header.Layout.TheVariants.{Two}
 use Rattle.unit_records.specs.MadeRecords.{none_made}
 use Rattle.recovery.specs.Durable.{Durable, fresh}
 use Rattle.recovery.specs.Journaled.{OnDisk}
-use Rattle.recovery.specs.Opens.{OpensTo}
 use Rattle.recovery.specs.Part.{opened}
 use Rattle.drda_node.specs.Asking.{AskedCore, asked_of}
 use Rattle.drda_node.specs.Machine.{Machine, at_start}
@@ -22,8 +21,7 @@ use Rattle.drda_program.specs.Deciding.{DecidesFile}
 use Rattle.store_files.specs.Endings.{line_of, status_of}
 use Rattle.drda_program.specs.Reporting.{result_for}
 use Rattle.store_files.specs.Files.{FileCalls}
-use Rattle.drda_server.specs.Network.{NetworkCalls}
-use Rattle.store_files.specs.Opening.{IsMade, IsOver, IsTurnedBack, OpensStore}
+use Rattle.store_files.specs.Opening.{IsMade, IsOver, IsTurnedBack}
 use Rattle.drda_server.specs.Serving.{Seen, ServesFile, Surroundings, seen, settings_of}
 use Rattle.drda_program.specs.LoggingIn.{LogsIn, net_and_out}
 use Rattle.told_stores.specs.Dumps.{Dumps, ListsTables}

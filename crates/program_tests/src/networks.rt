@@ -15,6 +15,8 @@ pub struct Callers<'a> {
     // How often letting one in will fail.
     failures: u64,
     has_come: bool,
+    // An address was refused.
+    is_refused: bool,
     // The last one that came was asked to hurry.
     is_hurried: bool,
     /// To how many seconds the reads of the last one were limited, 0 where they were not.
@@ -51,6 +53,7 @@ impl<'a> Callers<'a> {
             said,
             failures,
             has_come: false,
+            is_refused: false,
             is_hurried: false,
             limit: 0,
         }
@@ -66,6 +69,7 @@ impl<'a> Network for Callers<'a> {
 
     fn bind(&mut self, at: SocketAddr) -> io::Result<u16> {
         if self.way == "taken" || at != address(0) && at != address(4711) {
+            self.is_refused = true;
             return refused();
         }
         Ok(4711)
@@ -97,7 +101,7 @@ impl<'a> Network for Callers<'a> {
     }
 
     fn reason(&self) -> &str {
-        if self.way == "taken" {
+        if self.is_refused {
             "drdad: port 0: it is taken\n"
         } else {
             ""
