@@ -54,9 +54,9 @@ const TABLE: [(&'static [(usize, usize, u8)], Option<usize>); 9] = [
     (&[(2, 2, 9)], Some(2)),
     (&[(3, 0, 0)], Some(3)),
     (&[(4, 0, 2)], Some(4)),
-    // The first bad one counts, and the catalogue's before the others.
+    // The first bad one by number counts, of the catalogue's and of the others.
     (&[(3, 0, 0), (1, 0, 0)], Some(1)),
-    (&[(0, 0, 0), (4, 0, 0)], Some(4)),
+    (&[(0, 0, 0), (4, 0, 0)], Some(0)),
     // A key that does not come behind the one in front of it, over the border of two pages too.
     (&[(1, 7, 0)], Some(1)),
     (&[(3, 18, 0)], Some(3)),
