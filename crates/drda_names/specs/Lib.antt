@@ -1,2 +1,1 @@
-pub mod CodePage
 pub mod Names

@@ -2,7 +2,7 @@
 -- else code page 500 (DRDA V5 volume 1, "Data Conversion"; UNICODEMGR in volume 3).
 use Rattle.std.specs.Prelude.{ℕ, ◌-◌, Bool, false, ◌&&◌, ◌==◌, nat_lt, nat_le, List, [], ◌∷◌, ◌++◌, length, take, drop, map, replicate, unwrap_or, Option, Some, None, if◌then◌else◌}
 use Rattle.std.specs.List.{list_all}
-use Rattle.drda_names.specs.CodePage.{char_for, byte_for}
+use Rattle.ebcdic_500.specs.CodePage.{char_for, byte_for}
 
 abbrev pub is_ascii : List ℕ → Bool
 is_ascii bytes = list_all (λ b. nat_lt b 0x80) bytes

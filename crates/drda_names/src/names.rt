@@ -5,7 +5,7 @@ ghost use Rattle.std.specs.List.{list_all};
 ghost use Rattle.drda_names.specs.Names.{is_ascii, stands_for, spells, spells_padded, is_name, is_padded_name, is_blank, byte_in, in_encoding, padded_in};
 ghost use Rattle.drda_names.specs.Names as spec;
 
-use crate::table::{byte_of, char_of};
+use ebcdic_500::{byte_of, char_of};
 use std::alloc::AllocError;
 
 fn is_ascii(bytes: &[u8]) -> bool

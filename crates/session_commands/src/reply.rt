@@ -3,7 +3,7 @@
 ghost use Rattle.std.specs.Prelude.{◌≡◌, ◌++◌, OnErr, OnOk, map, codes, take, vec_len, None, Some};
 ghost use Rattle.std.specs.Option.{option_copied};
 ghost use Rattle.ddm_objects.specs.Writing.{spelled};
-ghost use Rattle.drda_names.specs.CodePage.{byte_for};
+ghost use Rattle.ebcdic_500.specs.CodePage.{byte_for};
 ghost use Rattle.session_commands.specs.Replies.{refusal_reply, rdb_error, manager_missing, rdb_not_found, levels_part, excsatrd, accsecrd, accsecrd_refused, secchkrm, check_severity, ccsids, accrdbrm};
 ghost use Rattle.session_commands.specs.Replies as spec;
 ghost use Rattle.drda_names.specs.Names.{in_encoding, padded_in};
@@ -27,7 +27,7 @@ pub const SERVER_CLASS: [u8; 5] = [0xC4, 0xD9, 0xC4, 0xC1, 0xC4];
 pub const RELEASE_LEVEL: [u8; 8] = [0xD9, 0xC4, 0xC1, 0xF0, 0xF1, 0xF0, 0xF0, 0xF0];
 
 /// The names that a server gives itself are these texts in code page 500.
-#[tactic(auto, unfolding(drda_names::specs::CodePage::byte_for))]
+#[tactic(auto, unfolding(ebcdic_500::specs::CodePage::byte_for))]
 pub fn names_in_code_page_500()
     ensures server_name { map byte_for (codes "drdad") ≡ map Some SERVER_NAME }
     ensures server_class { map byte_for (codes "DRDAD") ≡ map Some SERVER_CLASS }

@@ -1,7 +1,7 @@
 -- Names that are answered (DRDA V5 volume 1, "Data Conversion"; UNICODEMGR in volume 3): UTF-8 where CCSID
 -- 1208 is agreed, else code page 500.
 use Rattle.std.specs.Prelude.{ℕ, Bool, List, map, unwrap_or, if◌then◌else◌}
-use Rattle.drda_names.specs.CodePage.{byte_for}
+use Rattle.ebcdic_500.specs.CodePage.{byte_for}
 
 -- the byte for a character of printable ASCII
 abbrev pub byte_in : Bool → ℕ → ℕ

@@ -3,7 +3,7 @@
 ghost use Rattle.std.specs.Prelude.{◌≡◌, ◌<◌, ◌≤◌, ◌+◌, ◌++◌, OnOk, OnErr, length, take, vec_len, vec_capacity};
 ghost use Rattle.sqlam_replies.specs.Names.{byte_in, in_encoding};
 
-use drda_names::byte_of;
+use ebcdic_500::byte_of;
 use std::alloc::AllocError;
 
 fn byte_in(unicode: bool, character: u8) -> u8

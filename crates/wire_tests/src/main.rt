@@ -1,4 +1,4 @@
-//! Tests of drda_names, ddm_objects and dss_frames: texts in code page 500, code points, objects, and streams however they are cut. What each
+//! Tests of ebcdic_500, ddm_objects and dss_frames: texts in code page 500, code points, objects, and streams however they are cut. What each
 //! line of standard input comes to goes to standard output, which is compared.
 #![tactic(auto)]
 

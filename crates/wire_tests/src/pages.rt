@@ -1,7 +1,7 @@
 //! Texts in code page 500.
 
 use crate::told::tell_bytes;
-use drda_names::{byte_of, char_of, decode, encode};
+use ebcdic_500::{byte_of, char_of, decode, encode};
 use std::alloc::{AllocError, Global};
 
 /// Tells the bytes of a text.

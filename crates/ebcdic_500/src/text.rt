@@ -2,7 +2,7 @@
 
 ghost use Rattle.std.specs.Prelude.{◌≡◌, IfOk};
 ghost use Rattle.std.specs.Str.{chars};
-ghost use Rattle.drda_names.specs.CodePage.{Decodes, Encodes};
+ghost use Rattle.ebcdic_500.specs.CodePage.{Decodes, Encodes};
 
 use crate::fault::CodePageError;
 use crate::table::{byte_of, char_of};

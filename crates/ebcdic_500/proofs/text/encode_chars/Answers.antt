@@ -1,8 +1,8 @@
 use Rattle.std.proofs.Common.{◌≡◌, ◌<◌, ap, sym, ◌∙◌, length, get_or, arith, below_more, refl}
 use Rattle.std.specs.Prelude.{Some}
 use Rattle.std.proofs.lemmas.List.{map_more, map_push, get_or_default}
-use Rattle.drda_names.specs.CodePage.{byte_for}
-use Rattle.drda_names.proofs.text.encode_chars.Goals as goal
+use Rattle.ebcdic_500.specs.CodePage.{byte_for}
+use Rattle.ebcdic_500.proofs.text.encode_chars.Goals as goal
 
 pub loop-i-preserved : goal.loop-i-preserved
 loop-i-preserved c =

@@ -17,7 +17,7 @@ pub enum CodePageError {
 
 impl From<AllocError> for CodePageError {
     ghost use Rattle.std.specs.Prelude.{◌≡◌};
-    ghost use Rattle.drda_names.specs.declared.fault.CodePageError.TheVariants.{NoMemory};
+    ghost use Rattle.ebcdic_500.specs.declared.fault.CodePageError.TheVariants.{NoMemory};
 
     ghost from_gives = { λ _ error. error ≡ NoMemory };
 
@@ -28,7 +28,7 @@ impl From<AllocError> for CodePageError {
 
 impl<T: Drop> From<AllocFailed<T>> for CodePageError {
     ghost use Rattle.std.specs.Prelude.{◌≡◌};
-    ghost use Rattle.drda_names.specs.declared.fault.CodePageError.TheVariants.{NoMemory};
+    ghost use Rattle.ebcdic_500.specs.declared.fault.CodePageError.TheVariants.{NoMemory};
 
     ghost from_gives = { λ _ error. error ≡ NoMemory };
 

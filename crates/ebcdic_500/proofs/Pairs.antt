@@ -4,8 +4,8 @@ use Rattle.std.proofs.Common.{◌≡◌, ℕ, zero, suc, ◌<◌, ◌≤◌, Boo
 use Rattle.std.specs.Prelude.{◌==◌, if◌then◌else◌, nat_eq, nat_lt}
 use Rattle.std.specs.Map.{lookup}
 use Rattle.std.proofs.lemmas.Bool.{eqb-true, eqb-false, ltb-true, cases_lt}
-use Rattle.drda_names.specs.declared.table.TheConstants.{BYTES, CHARACTERS, NONE, NO_BYTE}
-use Rattle.drda_names.specs.CodePage.{char_for, byte_for, characters_with_bytes}
+use Rattle.ebcdic_500.specs.declared.table.TheConstants.{BYTES, CHARACTERS, NONE, NO_BYTE}
+use Rattle.ebcdic_500.specs.CodePage.{char_for, byte_for, characters_with_bytes}
 
 -- the test passes below n
 abbrev passes_below : ℕ → (ℕ → Bool) → Bool

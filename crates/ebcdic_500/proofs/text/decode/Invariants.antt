@@ -1,8 +1,8 @@
 use Rattle.std.proofs.Common.{◌≡◌, take}
 use Rattle.std.specs.Prelude.{string_bytes}
 use Rattle.std.specs.List.{flat_map}
-use Rattle.drda_names.specs.CodePage.{utf8_for, InTableBelow}
-use Rattle.drda_names.proofs.text.decode.Given as goal
+use Rattle.ebcdic_500.specs.CodePage.{utf8_for, InTableBelow}
+use Rattle.ebcdic_500.proofs.text.decode.Given as goal
 
 abbrev pub invariant-loop-i : goal.invariant-loop-i
 invariant-loop-i l = record {

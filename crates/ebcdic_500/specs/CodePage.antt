@@ -5,8 +5,8 @@ use Rattle.std.specs.Global.{Global, Vec}
 use Rattle.std.specs.Map.{lookup}
 use Rattle.std.specs.Option.{option_map_or}
 use Rattle.std.specs.List.{flat_map}
-use Rattle.drda_names.specs.declared.fault.CodePageError.{CodePageError}
-use Rattle.drda_names.specs.declared.fault.CodePageError.TheVariants.{NotInTable, NoMemory}
+use Rattle.ebcdic_500.specs.declared.fault.CodePageError.{CodePageError}
+use Rattle.ebcdic_500.specs.declared.fault.CodePageError.TheVariants.{NotInTable, NoMemory}
 
 -- The rows of the standard's table: a byte, and the characters that it and the bytes behind it stand for.
 abbrev pub rows : List (ℕ × List ℕ)

@@ -1,7 +1,7 @@
-use Rattle.drda_names.specs.declared.table.TheConstants.{CHARACTERS, NONE}
-use Rattle.drda_names.specs.CodePage.{char_for}
-use Rattle.drda_names.proofs.Pairs.{character_stands, marked, unmarked}
-use Rattle.drda_names.proofs.table.char_of.Goals as goal
+use Rattle.ebcdic_500.specs.declared.table.TheConstants.{CHARACTERS, NONE}
+use Rattle.ebcdic_500.specs.CodePage.{char_for}
+use Rattle.ebcdic_500.proofs.Pairs.{character_stands, marked, unmarked}
+use Rattle.ebcdic_500.proofs.table.char_of.Goals as goal
 
 pub returns-then-character-eq-NONE : goal.returns-then-character-eq-NONE
 returns-then-character-eq-NONE c = marked CHARACTERS NONE c.args.byte (char_for c.args.byte) c.if-character-eq-NONE.true (character_stands c.args.byte c.ranges.byte.fits)

@@ -1,8 +1,8 @@
 use Rattle.std.proofs.Common.{sym}
-use Rattle.drda_names.specs.declared.table.TheConstants.{BYTES, NO_BYTE}
-use Rattle.drda_names.specs.CodePage.{byte_for}
-use Rattle.drda_names.proofs.Pairs.{byte_stands, past_ascii, marked, unmarked}
-use Rattle.drda_names.proofs.table.byte_of.Goals as goal
+use Rattle.ebcdic_500.specs.declared.table.TheConstants.{BYTES, NO_BYTE}
+use Rattle.ebcdic_500.specs.CodePage.{byte_for}
+use Rattle.ebcdic_500.proofs.Pairs.{byte_stands, past_ascii, marked, unmarked}
+use Rattle.ebcdic_500.proofs.table.byte_of.Goals as goal
 
 pub returns-then-code-ge128 : goal.returns-then-code-ge128
 returns-then-code-ge128 c = sym (past_ascii c.args.character c.if-code-ge128.true)

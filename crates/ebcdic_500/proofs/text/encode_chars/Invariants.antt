@@ -1,7 +1,7 @@
 use Rattle.std.proofs.Common.{◌≡◌, ℕ, ◌<◌, map, take, get_or}
 use Rattle.std.specs.Prelude.{Some, IsSome}
-use Rattle.drda_names.specs.CodePage.{byte_for}
-use Rattle.drda_names.proofs.text.encode_chars.Given as goal
+use Rattle.ebcdic_500.specs.CodePage.{byte_for}
+use Rattle.ebcdic_500.proofs.text.encode_chars.Given as goal
 
 abbrev pub invariant-loop-i : goal.invariant-loop-i
 invariant-loop-i l = record {

@@ -1,7 +1,7 @@
 //! The table, and what a single byte or character is.
 
 ghost use Rattle.std.specs.Prelude.{◌≡◌, ◌↔◌, ◌<◌, ℕ, Some};
-ghost use Rattle.drda_names.specs.CodePage.{byte_for, char_for};
+ghost use Rattle.ebcdic_500.specs.CodePage.{byte_for, char_for};
 
 /// Stands where a byte is no character of the table.
 const NONE: char = '\0';

@@ -1,5 +1,0 @@
-use Rattle.drda_names.proofs.Pairs.{back, forth}
-use Rattle.drda_names.proofs.table.is_one_to_one.Goals as goal
-
-pub returns : goal.returns
-returns c = λ b x lt. (back b x lt, forth b x)
