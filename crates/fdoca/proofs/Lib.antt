@@ -6,3 +6,4 @@ mod Triplets
 mod Sizes
 mod Walking
 mod Answers
+mod Slices

@@ -2,6 +2,7 @@ pub mod Types
 pub mod Descriptor
 pub mod Row
 pub mod Reading
+pub mod Slices
 pub mod Held
 pub mod Calls
 pub mod Laws

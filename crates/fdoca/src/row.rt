@@ -1,9 +1,10 @@
 //! Rows.
 
-ghost use Rattle.std.specs.Prelude.{◌≡◌, ◌≤◌, ◌<◌, IfSome, length, option_map};
+ghost use Rattle.std.specs.Prelude.{◌≡◌, ◌≤◌, ◌<◌, IfOk, IfSome, length, option_map};
 ghost use Rattle.row_values.specs.Value.{value_of};
 ghost use Rattle.fdoca.specs.Reading.{content_at, counted_at, front_of, marked_at, row_at, utf8_in, value_at, values_at};
 ghost use Rattle.fdoca.specs.Calls.{GivesValues, ReadsRow};
+ghost use Rattle.fdoca.specs.Slices.{AllStand};
 
 use crate::descriptor::Descriptor;
 use crate::fault::DescriptorFault;
@@ -29,7 +30,9 @@ pub fn read_row<'a>(
     descriptor: &Descriptor,
     row: &'a [u8],
 ) -> Result<Values<'a>, DescriptorFault>
-    ensures { ReadsRow descriptor.now row.now result }
+    ensures values { ReadsRow descriptor.now row.now result }
+    // Each text and each bytes are the slice of the row from their place on.
+    ensures places { IfOk result (λ values. AllStand row.now 1 descriptor.now values) }
 {
     read(alloc, descriptor.fields(), row)
 }
