@@ -1,4 +1,5 @@
 pub mod Ahead
+pub mod Apart
 pub mod Cases
 pub mod Numbered
 pub mod Parts

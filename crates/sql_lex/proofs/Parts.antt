@@ -20,7 +20,7 @@ take_own zero z = take_zero z
 take_own (suc n) [] = refl
 take_own (suc n) (b ∷ z) = ap (λ u. b ∷ u) (take_own n z)
 
-take_short : (n : ℕ) (z : List ℕ) → length (take n z) ≤ length z
+pub take_short : (n : ℕ) (z : List ℕ) → length (take n z) ≤ length z
 take_short zero z = zero_le z
   where
     zero_le : (z : List ℕ) → length (take 0 z) ≤ length z

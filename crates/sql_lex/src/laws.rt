@@ -4,12 +4,17 @@ ghost use Rattle.std.specs.Prelude.{ℕ, List};
 ghost use Rattle.std.specs.Str.{IsUtf8};
 ghost use Rattle.sql_lex.specs.Markers.{AreNumbered};
 ghost use Rattle.sql_lex.specs.Spelling.{AllSpelled, AllReadable};
-ghost use Rattle.sql_lex.specs.Stands.{AllStand};
+ghost use Rattle.sql_lex.specs.Stands.{AllStand, LieApart};
 ghost use Rattle.sql_lex.specs.Tokens.{tokens};
 
 /// Each name, number, text and bytes that a token has is the slice of the text at its place.
 pub fn parts_stand_in_the_text()
     ensures { (text : List ℕ) → AllStand text (tokens text) }
+{}
+
+/// The tokens of a text lie in it one behind the other, and their parts do not overlap.
+pub fn tokens_lie_apart()
+    ensures { (text : List ℕ) → LieApart text (tokens text) }
 {}
 
 /// At its place each token is spelled as plain words say, and takes all bytes that go on with it.

@@ -9,6 +9,7 @@ pub mod Only
 pub mod OnlyRules
 pub mod Outcomes
 pub mod Repeats
+pub mod Sliced
 pub mod TokenKinds
 pub mod Told
 pub mod ToldRules

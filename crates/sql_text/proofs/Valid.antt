@@ -100,7 +100,7 @@ module _ (m : ℕ) where
 
 -- ---- what is answered
 
-answered : (len m : ℕ) (d : Draft) (r : Option Refusal) (s : Statement) → answer_by len m d r ≡ Ok s → (r ≡ None) × (statement m d ≡ s)
+pub answered : (len m : ℕ) (d : Draft) (r : Option Refusal) (s : Statement) → answer_by len m d r ≡ Ok s → (r ≡ None) × (statement m d ≡ s)
 answered len m d None s e = let same : statement m d ≡ s = cc in (refl, same)
 answered len m d (Some r) s e = absurd (cc)
 

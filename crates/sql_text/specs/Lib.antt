@@ -5,6 +5,7 @@ pub mod Place
 pub mod Plain
 pub mod Reading
 pub mod Rules
+pub mod Slices
 pub mod Spelled
 pub mod Text
 pub mod Valid

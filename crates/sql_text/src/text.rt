@@ -6,6 +6,7 @@ ghost use Rattle.sql_lex.specs.Tokens.{tokens};
 ghost use Rattle.sql_text.specs.Grammar.{IsStatement, Tree};
 ghost use Rattle.sql_text.specs.Checks as checks;
 ghost use Rattle.sql_text.specs.Place.{Explains};
+ghost use Rattle.sql_text.specs.Slices.{StandFrom, slices_of};
 ghost use Rattle.sql_text.specs.Text as spec;
 ghost use Rattle.sql_text.specs.Text.{but_memory};
 ghost use Rattle.sql_text.specs.Valid.{IsValidStatement};
@@ -18,7 +19,9 @@ use crate::fault::Fault;
 use crate::statement::whole_command;
 use crate::tree::Statement;
 use sql_lex::Cursor;
-use sql_lex::laws::{markers_are_numbered, texts_are_utf8, tokens_are_spelled_so};
+use sql_lex::laws::{
+    markers_are_numbered, parts_stand_in_the_text, texts_are_utf8, tokens_are_spelled_so, tokens_lie_apart,
+};
 use std::alloc::Global;
 
 /// The most bytes of a statement's text.
@@ -100,11 +103,15 @@ pub fn parse<'a>(alloc: Global, text: &'a str) -> Result<Statement<'a>, SqlError
     ensures refused { IfErr result (λ e. Explains text.now e) }
     // What is parsed is what plain words say.
     ensures valid { IfOk result IsValidStatement }
+    // Its names and literals are slices of the text, one behind the other.
+    ensures places { IfOk result (λ s. StandFrom text.now 0 (slices_of s)) }
     ensures exact { length text.now ≤ 32767 → Answers (λ s. s) but_memory result (spec.reading text.now) }
 {
     tokens_are_spelled_so();
     texts_are_utf8();
     markers_are_numbered();
+    parts_stand_in_the_text();
+    tokens_lie_apart();
     let bytes = text.as_bytes();
     if bytes.len() > MAX_TEXT_BYTES {
         return Err(SqlError::Limit);
