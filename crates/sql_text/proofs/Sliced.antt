@@ -1,8 +1,8 @@
 -- The names and literals of a statement stand in its text where their tokens do.
-use Rattle.std.proofs.Common.{◌≡◌, inl, inr, ℕ, zero, suc, ◌+◌, ◌-◌, ◌≤◌, Bool, true, false, List, [], ◌∷◌, ◌++◌, length, drop, map, Option, Some, None, Result, Ok, Err, IfOk, refl, sym, ap, ◌∙◌, subst, arith, append_assoc, append-nil}
+use Rattle.std.proofs.Common.{◌≡◌, inl, inr, ℕ, zero, suc, ◌+◌, ◌-◌, ◌≤◌, Bool, true, false, List, [], ◌∷◌, ◌++◌, length, map, Option, Some, None, Result, Ok, Err, IfOk, refl, sym, ap, ◌∙◌, subst, arith, append_assoc, append-nil}
 use Rattle.drda_words.specs.Place.{StandsAt}
 use Rattle.sql_lex.specs.Markers.{markers_in}
-use Rattle.sql_lex.specs.Stands.{AllStand, AreApart, LieApart, Stands, StandsIn, ahead_of, reach, reach_over}
+use Rattle.sql_lex.specs.Stands.{AllStand, AreApart, LieApart, ahead_of, reach}
 use Rattle.sql_lex.specs.Tokens.{Lexeme, tokens}
 use Rattle.sql_lex.specs.declared.terminal.Terminal.{Terminal}
 use Rattle.sql_lex.specs.declared.terminal.Terminal.TheVariants as w
@@ -15,8 +15,7 @@ use Rattle.sql_text.specs.Grammar as g
 use Rattle.sql_text.specs.Grammar.{At, Is, The, IsList, IsNumber, IsValue, IsTerm, IsOperation, AreAddends, IsSum, IsAll, IsAny, IsPrimary, IsNested, IsType, IsNullable, IsDefinition, IsKeyColumn, IsAssignment, IsFilterUnder, IsStatement, AreListed, AreSelected}
 use Rattle.sql_text.specs.Plain as plain
 use Rattle.sql_text.specs.Slices.{StandFrom, addend_slices, assignment_slices, columns_slices, command_slices, definition_slices, filter_slices, joined, key_slices, layer_slices, literal_slices, name_slices, predicate_slices, slices_of, sum_slices, term_slices}
-use Rattle.sql_text.specs.Text.{answer, answer_by, statement}
-use Rattle.sql_text.specs.declared.check.Refusal.{Refusal}
+use Rattle.sql_text.specs.Text.{answer}
 use Rattle.sql_text.specs.declared.draft.Draft.{Draft}
 use Rattle.sql_text.specs.declared.draft.Draft.TheVariants as draft
 use Rattle.sql_text.specs.declared.draft.DraftColumn.{DraftColumn}

@@ -1,5 +1,5 @@
 -- The names and literals of a statement are slices of its text, in the order in which they stand there.
-use Rattle.std.specs.Prelude.{ℕ, ◌+◌, ◌≤◌, Bool, List, [], ◌∷◌, ◌++◌, length, map, Option, Some, None}
+use Rattle.std.specs.Prelude.{ℕ, ◌+◌, ◌≤◌, List, [], ◌∷◌, ◌++◌, length, map, Option, Some, None}
 use Rattle.drda_words.specs.Place.{StandsAt}
 use Rattle.sql_text.specs.declared.tree.Literal.{Literal}
 use Rattle.sql_text.specs.declared.tree.Literal.TheVariants as literal

@@ -20,7 +20,8 @@ use crate::statement::whole_command;
 use crate::tree::Statement;
 use sql_lex::Cursor;
 use sql_lex::laws::{
-    markers_are_numbered, parts_stand_in_the_text, texts_are_utf8, tokens_are_spelled_so, tokens_lie_apart,
+    markers_are_numbered, parts_stand_in_the_text, texts_are_utf8, tokens_are_spelled_so,
+    tokens_lie_apart,
 };
 use std::alloc::Global;
 
