@@ -1,5 +1,5 @@
 -- What becomes of a disk and its journal where a checkpoint is written.
-use Rattle.std.specs.Prelude.{◌≡◌, ◌⊎◌, ◌<◌, ◌≤◌, ℕ, ◌+◌, Bool, true, false, IsTrue, List, length, Result, Ok, Err}
+use Rattle.std.specs.Prelude.{◌≡◌, ◌⊎◌, ◌<◌, ◌≤◌, ℕ, ◌+◌, ◌^◌, Bool, true, false, IsTrue, List, length, Result, Ok, Err}
 use Rattle.drda_disk.specs.Disk.{LeavesOnly, Life, Stays}
 use Rattle.drda_disk.specs.Region.{end_of}
 use Rattle.half_store.specs.Active.{Store}
@@ -10,6 +10,8 @@ use Rattle.tables.specs.Tables.{Store as Tables}
 use Rattle.unit_journal.specs.Journal.{IsSettled, held_of, region_of}
 use Rattle.unit_journal.specs.declared.journal.Journal.{Journal}
 use Rattle.unit_journal.specs.Record.{Entry}
+use Rattle.unit_records.specs.Records.{UnitRecord}
+use Rattle.unit_records.specs.Room.{held, taken}
 use Rattle.checkpoints.specs.Holds.{half_end, journal_at}
 use Rattle.checkpoints.specs.Moment.{GoesOn, IsNew, Moment, Rests}
 use Rattle.checkpoints.specs.Room.{need_of}
@@ -97,3 +99,9 @@ module _ {D : Type 0} (modelled : Bool) (life : D → Life) where
   Checkpoints old tables es hold (Err NoMemory) new = KeepsOld old tables es hold new
   Checkpoints old tables es hold (Err (Full need room)) new = KeepsOld old tables es hold new × OfStore old (λ store. LacksRoom old tables es hold need room new)
   Checkpoints old tables es hold (Err DeviceFailed) new = LeavesOpen old tables es hold new
+
+-- no record is made: with what it holds back in layout 2 it has 2^32 bytes or more, or there is no memory
+abbrev pub IsTooLong : UnitRecord → CheckpointError → Type 0
+IsTooLong said (Full need room) = 2 ^ 32 ≤ taken said + held Two said
+IsTooLong said NoMemory = Unit {0}
+IsTooLong said DeviceFailed = ⊥

@@ -12,6 +12,7 @@ ghost use Rattle.unit_journal.specs.LaidRecord.{entry_in};
 ghost use Rattle.unit_journal.specs.Record.{entries_of, entry_of};
 ghost use Rattle.unit_records.specs.Records.{IsGood, entry_of as written, heuristic, prepared};
 ghost use Rattle.journal_recorder.specs.declared.checkpointing.CheckpointError.TheVariants.{DeviceFailed, NoMemory};
+ghost use Rattle.journal_recorder.specs.Checkpointing.{IsTooLong};
 ghost use Rattle.journal_recorder.specs.Recording.{disk_of, has_failed, journal_of};
 
 use crate::laying::{lay_heuristic, lay_prepare};
@@ -57,6 +58,7 @@ pub fn prepare_record(
     ensures record { IfOk result (λ r. entry_of r ≡ written (prepared xid.now (map change_of changes.now) claims.now)) }
     ensures good { IfOk result (λ r. IsGood (prepared xid.now (map change_of changes.now) claims.now)) }
     ensures other { IfErr result (λ error. error ≢ DeviceFailed) }
+    ensures refused { IfErr result (λ error. IsTooLong (prepared xid.now (map change_of changes.now) claims.now) error) }
 {
     let laid = match lay_prepare(
         alloc,

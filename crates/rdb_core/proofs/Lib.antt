@@ -8,3 +8,4 @@ pub mod Questions
 pub mod Back
 pub mod Phases
 pub mod Standing
+mod Wanting

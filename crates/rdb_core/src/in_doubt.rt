@@ -1,11 +1,11 @@
-//! The XIDs in doubt.
+//! The branches in doubt.
 
-ghost use Rattle.rdb_core.specs.InDoubt.{LendsXid, xids_left};
+ghost use Rattle.rdb_core.specs.InDoubt.{LendsBranch, LendsXid, branches_left, xids_left};
 
 use xa_calls::Xid;
 use xa_manager::Branch;
 
-/// The XIDs in doubt that are left to be lent, by rising bytes.
+/// The branches in doubt that are left to be lent, by rising bytes of their XIDs.
 #[derive(Drop)]
 pub struct InDoubt<'a> {
     pub(crate) left: &'a [Branch],
@@ -22,6 +22,22 @@ impl<'a> InDoubt<'a> {
             if branch.state.is_in_doubt() {
                 self.left = left;
                 return Some(&branch.xid);
+            }
+        }
+        self.left = left;
+        None
+    }
+
+    /// The next XID with the state of its branch, or none where none is left. Takes no memory.
+    pub fn next_branch(&mut self) -> Option<&'a Branch>
+        ensures { LendsBranch (branches_left self.old) result (branches_left self.new) }
+    {
+        let mut left = self.left;
+        while let [branch, rest @ ..] = left {
+            left = rest;
+            if branch.state.is_in_doubt() {
+                self.left = left;
+                return Some(branch);
             }
         }
         self.left = left;

@@ -6,7 +6,7 @@ ghost use Rattle.paged_tables.specs.PagedTables.{store_in};
 ghost use Rattle.paged_tables.specs.TablesByName.{PagesStay};
 ghost use Rattle.xa_manager.specs.Branch.{in_doubt_xids};
 ghost use Rattle.core_model.specs.Units.{global, has_work, unit_of};
-ghost use Rattle.rdb_core.specs.InDoubt.{xids_left};
+ghost use Rattle.rdb_core.specs.InDoubt.{branches_left, in_doubt_branches, xids_left};
 ghost use Rattle.rdb_core.specs.Restored.{RestoresUnit, with_in_doubt};
 ghost use Rattle.rdb_core.specs.State.{pages_of, recorder_of, state_of};
 
@@ -70,9 +70,10 @@ impl<R: Recorder> Core<R> {
         }
     }
 
-    /// The XIDs that are in doubt, prepared or decided heuristically, by rising bytes. Takes no memory.
+    /// The XIDs that are in doubt, each with its state: prepared or decided heuristically. By rising bytes. Takes no memory.
     pub fn in_doubt(&self) -> InDoubt<'_>
-        ensures { xids_left result ≡ in_doubt_xids (state_of self.now).branches }
+        ensures xids { xids_left result ≡ in_doubt_xids (state_of self.now).branches }
+        ensures branches { branches_left result ≡ in_doubt_branches (state_of self.now).branches }
     {
         InDoubt {
             left: self.branches.branches(),

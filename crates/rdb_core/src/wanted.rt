@@ -1,6 +1,7 @@
 //! Which rows are read ahead of a statement.
 
-ghost use Rattle.rdb_core.specs.Sight.{IsClaimed};
+ghost use Rattle.std.specs.Prelude.{◌≡◌};
+ghost use Rattle.rdb_core.specs.Sight.{IsClaimed, asked_by, asked_in, looks_through};
 
 use ahead_view::Wanted;
 use sql_text::Command;
@@ -10,7 +11,8 @@ use unit_locks::Claim;
 /// it claims all of a table, SELECT, UPDATE and DELETE ask for all rows of it, while INSERT and CREATE
 /// TABLE ask for none.
 pub(crate) fn wanted<'a>(command: &Command<'_>, claims: &'a [Claim]) -> Wanted<'a>
-    ensures { IsClaimed result claims.now }
+    ensures claimed { IsClaimed result claims.now }
+    ensures exact { asked_in result ≡ asked_by command.now claims.now }
 {
     let [claim] = claims else {
         return Wanted::Nothing;
@@ -26,7 +28,9 @@ pub(crate) fn wanted<'a>(command: &Command<'_>, claims: &'a [Claim]) -> Wanted<'
 }
 
 // Whether a statement looks at each row of a table that it claims whole.
-fn looks_through(command: &Command<'_>) -> bool {
+fn looks_through(command: &Command<'_>) -> bool
+    ensures { result ≡ looks_through command.now }
+{
     match command {
         Command::Update { .. } | Command::Delete { .. } | Command::Select { .. } => true,
         Command::Create { .. } | Command::Insert { .. } => false,
