@@ -183,14 +183,7 @@ impl<D: Disk> DiskRecorder<D> {
         ensures tables { store_in tables.new ≡ store_in tables.old }
         ensures pages { HasStore D.is_modelled D.life self.old → HasPages D.is_modelled D.life self.new tables.new.tables }
     {
-        match write_checkpoint(
-            self.alloc,
-            &mut self.pager,
-            active,
-            tables,
-            records,
-            held,
-        ) {
+        match write_checkpoint(self.alloc, &mut self.pager, active, tables, records, held) {
             Ok(relaid) => {
                 self.journal = relaid.switched.journal;
                 self.layout = Layout::Two;

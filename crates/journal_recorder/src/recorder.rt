@@ -41,12 +41,7 @@ impl<D: Disk> DiskRecorder<D> {
 
     /// Records in this journal of this disk, whose device has not failed, and which is lent with `CACHED_PAGES`
     /// kept pages at most. The journal has this layout.
-    pub fn new(
-        alloc: Global,
-        pager: Pager<D>,
-        journal: Journal,
-        layout: Layout,
-    ) -> DiskRecorder<D>
+    pub fn new(alloc: Global, pager: Pager<D>, journal: Journal, layout: Layout) -> DiskRecorder<D>
         ensures disk { disk_of result ≡ pager }
         ensures journal { journal_of result ≡ journal }
         ensures layout { layout_of result ≡ layout }

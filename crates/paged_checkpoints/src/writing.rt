@@ -118,15 +118,7 @@ fn write_half<D: Disk>(
     ensures cause { CountsImage result (D.life disk.old).faults (D.life disk.new).faults }
 {
     let image = begin_image(disk, active)?;
-    match write_image(
-        alloc,
-        disk,
-        image,
-        active,
-        tables.lend(),
-        records,
-        held,
-    ) {
+    match write_image(alloc, disk, image, active, tables.lend(), records, held) {
         Ok(relaid) => Ok(relaid),
         Err(ImageError::DeviceFailed) => Err(ImageError::DeviceFailed),
         // What was written is synced, so that a crash leaves what is read.

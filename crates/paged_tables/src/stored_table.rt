@@ -157,11 +157,7 @@ impl StoredTable {
     }
 
     /// All rows, in the order of their keys. Each page is looked at once.
-    pub fn scan<D: Disk>(
-        &self,
-        alloc: Global,
-        pager: &mut Pager<D>,
-    ) -> Result<Rows, PageFault>
+    pub fn scan<D: Disk>(&self, alloc: Global, pager: &mut Pager<D>) -> Result<Rows, PageFault>
         requires { LiesInside (length (D.life pager.old).seen) self.now }
         ensures rows { IsTrue D.is_modelled → IsOnPages (D.life pager.old).seen self.now → IfOk result (λ rows. rows ≡ values_of (table_in self.now).rows) }
         ensures whole { IsTrue D.is_modelled → IsOnPages (D.life pager.old).seen self.now → DamagedWhere ⊥ result }

@@ -79,7 +79,12 @@ impl PageCache {
     }
 
     /// Keeps the page at an offset, as the one that was asked for last. It is read where it is not kept.
-    pub(crate) fn fetch<D: Disk>(&mut self, alloc: Global, disk: &mut D, at: usize) -> Result<(), PageFault>
+    pub(crate) fn fetch<D: Disk>(
+        &mut self,
+        alloc: Global,
+        disk: &mut D,
+        at: usize,
+    ) -> Result<(), PageFault>
         requires { at + 8192 ≤ length (D.life disk.old).seen }
         ensures kept { IsTrue D.is_modelled → AreRead self.old (D.life disk.old).seen → AreRead self.new (D.life disk.new).seen }
         ensures there { OnOk result (IsSome (lookup (nat_eq at) self.new)) }

@@ -160,13 +160,7 @@ pub fn check_catalogue<D: Disk>(
 {
     let mut tables = Vec::new(alloc);
     for page in 0..count {
-        add_page(
-            alloc,
-            pager,
-            at + PAGE_BYTES * page,
-            last,
-            &mut tables,
-        )?;
+        add_page(alloc, pager, at + PAGE_BYTES * page, last, &mut tables)?;
     }
     Ok(tables)
 }
