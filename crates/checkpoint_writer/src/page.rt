@@ -1,5 +1,5 @@
 //! Writing one page.
-ghost use Rattle.std.specs.Prelude.{◌≡◌, ◌+◌, ◌*◌, ◌≤◌, ℕ, List, IsTrue, OnOk, length};
+ghost use Rattle.std.specs.Prelude.{◌≡◌, ◌+◌, ◌*◌, ◌≤◌, IsTrue, OnOk, length};
 ghost use Rattle.drda_words.specs.Place.{part};
 ghost use Rattle.half_store.specs.Writing.{from_of, half_bytes_of, next_of, pages_of};
 ghost use Rattle.checkpoint_writer.specs.Adding.{AddsPages, end_of_half};

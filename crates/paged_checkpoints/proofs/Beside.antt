@@ -1,6 +1,5 @@
 -- Tables that stay where they are while another half is written.
 use Rattle.std.proofs.Common.{◌≡◌, ◌⊎◌, inl, inr, ⊎_elim, ℕ, ◌+◌, ◌-◌, ◌*◌, ◌≤◌, Bool, List, [], ◌∷◌, length, sym, ap, subst, ◌∙◌, arith}
-use Rattle.std.specs.Prelude.{IsTrue}
 use Rattle.drda_disk.specs.Disk.{Torn}
 use Rattle.key_map.specs.RowForm.{row_form}
 use Rattle.half_store.specs.Active.{Store as Opened}

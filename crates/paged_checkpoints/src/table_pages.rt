@@ -1,5 +1,5 @@
 //! Writing tables one behind another.
-ghost use Rattle.std.specs.Prelude.{◌≡◌, ◌+◌, ◌*◌, ◌≤◌, ◌++◌, ◌∷◌, ◌==◌, [], ℕ, List, true, IsTrue, OnOk, IfOk, IfErr, length, map, if◌then◌else◌};
+ghost use Rattle.std.specs.Prelude.{◌≡◌, ◌+◌, ◌*◌, ◌≤◌, ◌++◌, ◌∷◌, ◌==◌, [], ℕ, List, true, OnOk, IfOk, IfErr, length, map, if◌then◌else◌};
 ghost use Rattle.std.specs.List.{AllByRecursion};
 ghost use Rattle.half_store.specs.Writing.{from_of, half_bytes_of, next_of, pages_of};
 ghost use Rattle.tables.specs.View.{is_store};

@@ -1,5 +1,4 @@
 use Rattle.std.proofs.Common.{◌≡◌, length, map}
-use Rattle.std.specs.Prelude.{IsTrue}
 use Rattle.half_store.specs.Writing.{next_of}
 use Rattle.checkpoint_writer.specs.Adding.{AddsPages}
 use Rattle.checkpoint_writer.specs.Catalogue.{HaveNames, place_of}

@@ -1,5 +1,4 @@
 use Rattle.std.proofs.Common.{◌≡◌}
-use Rattle.std.specs.Prelude.{IsTrue}
 use Rattle.key_map.specs.Walk.{rows_left}
 use Rattle.half_store.specs.Writing.{next_of}
 use Rattle.checkpoint_writer.specs.Adding.{AddsPages}

@@ -1,4 +1,4 @@
-use Rattle.std.proofs.Common.{rules, ◌≡◌, inl, inr, ⊎_elim, ℕ, ◌-◌, List, [], ◌∙◌, length, map, sym, ap, subst, arith, refl}
+use Rattle.std.proofs.Common.{rules, ◌≡◌, inl, inr, ⊎_elim, ◌-◌, [], ◌∙◌, length, map, sym, ap, subst, arith, refl}
 use Rattle.std.proofs.lemmas.List.{length-map}
 use Rattle.row_pages.specs.Laying.{laid}
 use Rattle.half_store.specs.Writing.{next_of}

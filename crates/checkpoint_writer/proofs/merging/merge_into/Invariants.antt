@@ -1,5 +1,4 @@
 use Rattle.std.proofs.Common.{◌≡◌, ◌+◌, ◌*◌, ◌≤◌, length}
-use Rattle.std.specs.Prelude.{IsTrue}
 use Rattle.half_store.specs.Writing.{next_of}
 use Rattle.table_map.specs.Cursor.{weight}
 use Rattle.checkpoint_writer.specs.Adding.{AddsPages}
