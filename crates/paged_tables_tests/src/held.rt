@@ -66,12 +66,7 @@ impl<D: Disk> Held<D> {
     }
 
     /// All rows of a table, as it is or as it is lent.
-    pub fn rows(
-        &mut self,
-        alloc: Global,
-        name: &str,
-        is_lent: bool,
-    ) -> Result<Rows, PageFault> {
+    pub fn rows(&mut self, alloc: Global, name: &str, is_lent: bool) -> Result<Rows, PageFault> {
         if is_lent {
             return scan_lent(alloc, &self.tables, &mut self.pager, name);
         }
@@ -96,11 +91,7 @@ impl<D: Disk> Held<D> {
     }
 
     /// Lays all rows into the half that is not active, and goes on over those pages. Tells how many there are.
-    pub fn checkpoint(
-        &mut self,
-        alloc: Global,
-        active: &Active,
-    ) -> Result<u32, ImageError> {
+    pub fn checkpoint(&mut self, alloc: Global, active: &Active) -> Result<u32, ImageError> {
         self.pager.forget();
         if self.pager.size() != STORE_BYTES {
             return Err(ImageError::Damaged);

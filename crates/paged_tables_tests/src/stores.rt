@@ -31,7 +31,10 @@ fn new_store(alloc: Global, calls: u64) -> Option<(Pager<FuseDisk<MemDisk>>, Act
     let mut disk = MemDisk::new(alloc, STORE_BYTES).ok()?;
     format(alloc, &mut disk, "TEST").ok()?;
     let active = open(alloc, &mut disk).ok()?;
-    Some((Pager::over(FuseDisk::new(disk, calls, false), cache), active))
+    Some((
+        Pager::over(FuseDisk::new(disk, calls, false), cache),
+        active,
+    ))
 }
 
 // A store with one table of this name.
@@ -178,9 +181,7 @@ impl Stores {
 
     /// Lays all rows into pages of the other half, and tells how many there are.
     pub fn checkpoint(&mut self, out: &mut Vec<u8>) -> Option<()> {
-        let done = self
-            .held
-            .checkpoint(self.alloc, &self.active);
+        let done = self.held.checkpoint(self.alloc, &self.active);
         match done {
             Ok(pages) => {
                 self.active.half = self.active.half.other();
@@ -193,10 +194,7 @@ impl Stores {
     // Whether a table shows the same, as it is or as it is lent.
     fn is_alike(&mut self, is_lent: bool, name: &str) -> Option<bool> {
         let there = self.plain.scan(self.alloc, name).ok()?;
-        let here = self
-            .held
-            .rows(self.alloc, name, is_lent)
-            .ok()?;
+        let here = self.held.rows(self.alloc, name, is_lent).ok()?;
         Some(are_alike(&here, &there))
     }
 
@@ -258,10 +256,7 @@ impl Stores {
 
     /// Tells what a statement sees of a table's rows, for which those of the other table were read.
     pub fn tell_all_ahead(&mut self, read: &str, asked: &str, out: &mut Vec<u8>) -> Option<()> {
-        let rows = self
-            .held
-            .rows(self.alloc, read, false)
-            .ok()?;
+        let rows = self.held.rows(self.alloc, read, false).ok()?;
         let mut given = Given::new(rows);
         let wanted = Wanted::Rows { table: read };
         tell_ahead(

@@ -108,13 +108,6 @@ impl Table {
         let copy = self.disk.copy(self.alloc).ok()?;
         let cache = PageCache::new(self.alloc, 2).ok()?;
         let mut pager = Pager::over(FuseDisk::new(copy, self.calls, false), cache);
-        tell_asked(
-            self.alloc,
-            &self.schema,
-            &mut pager,
-            self.pages,
-            line,
-            out,
-        )
+        tell_asked(self.alloc, &self.schema, &mut pager, self.pages, line, out)
     }
 }
