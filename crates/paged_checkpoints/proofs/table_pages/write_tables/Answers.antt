@@ -34,7 +34,7 @@ loop-table-init g c = record {
   count = omega (arith, ap (λ (l : List Places). length l) c.new-2.ensures.items);
   readable = λ readable. readable;
   laid = λ readable.
-      none_laid g.D.Disk.is_modelled (g.D.Disk.life c.args.disk.now).seen c.args.image.now (map place_of c.new.result.items) c.new-2.result.items c.args.tables (ap (λ (l : List TablePlace). map place_of l) c.new.ensures.items) c.new-2.ensures.items;
+      none_laid g.D.Disk.is_modelled (g.D.Disk.life c.args.disk.now).seen c.args.image.now (map place_of c.new.result.items) c.new-2.result.items c.args.tables c.requires.none (ap (λ (l : List TablePlace). map place_of l) c.new.ensures.items) c.new-2.ensures.items;
 }
 
 pub returns-in_err-written-clause-adds : goal.returns-in_err-written-clause-adds
