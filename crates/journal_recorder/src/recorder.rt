@@ -1,6 +1,6 @@
 //! Who records in a journal.
 
-ghost use Rattle.std.specs.Prelude.{◌≡◌, ◌+◌, ◌<◌, ◌≤◌, ◌^◌, false, IfErr, OnOk, length};
+ghost use Rattle.std.specs.Prelude.{◌≡◌, ◌+◌, ◌<◌, ◌≤◌, ◌^◌, false, List, IfErr, OnOk, length};
 ghost use Rattle.drda_disk.specs.Region.{end_of};
 ghost use Rattle.unit_journal.specs.Journal.{held_of, region_of, room_of};
 ghost use Rattle.unit_journal.specs.LaidRecord.{entry_in};
