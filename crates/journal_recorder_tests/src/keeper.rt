@@ -1,6 +1,6 @@
 //! A recorder with the tables of its store. What may not be asked of it shows as want of memory, or as refused.
 
-ghost use Rattle.std.specs.Prelude.{◌≡◌, ◌≤◌, [], IsTrue, length, false};
+ghost use Rattle.std.specs.Prelude.{◌≡◌, ◌≤◌, IsTrue, length, false};
 ghost use Rattle.drda_disk.specs.Region.{end_of};
 ghost use Rattle.unit_journal.specs.Journal.{held_of, region_of};
 ghost use Rattle.journal_recorder.specs.Recording.{disk_of, has_failed, journal_of};

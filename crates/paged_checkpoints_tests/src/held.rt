@@ -72,7 +72,6 @@ impl<D: Disk + Drop> Held<D> {
 
     /// Writes a checkpoint that holds so many bytes back, and goes on over its pages.
     pub fn checkpoint(&mut self, alloc: Global, held: usize) -> Result<(), ImageError> {
-        self.pager.forget();
         if self.pager.size() != STORE_BYTES {
             return Err(ImageError::Damaged);
         }

@@ -92,7 +92,6 @@ impl<D: Disk> Held<D> {
 
     /// Lays all rows into the half that is not active, and goes on over those pages. Tells how many there are.
     pub fn checkpoint(&mut self, alloc: Global, active: &Active) -> Result<u32, ImageError> {
-        self.pager.forget();
         if self.pager.size() != STORE_BYTES {
             return Err(ImageError::Damaged);
         }
