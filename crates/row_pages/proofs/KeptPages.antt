@@ -1,5 +1,5 @@
 -- Pages that are kept, and what a disk reads.
-use Rattle.std.proofs.Common.{◌≡◌, ◌⊎◌, ℕ, ◌+◌, ◌≤◌, true, cond, List, [], ◌∷◌, Option, Some, None, Err, Contains, refl, sym, ap, subst, inl, inr, arith, rules}
+use Rattle.std.proofs.Common.{◌≡◌, ◌⊎◌, ℕ, ◌+◌, ◌≤◌, true, cond, List, ◌∷◌, Option, Some, None, Err, Contains, refl, sym, ap, subst, inl, inr, arith}
 use Rattle.std.specs.Prelude.{nat_eq, is_some, IsSome}
 use Rattle.std.specs.Option.{option_map_or}
 use Rattle.std.specs.Cmp.{nat_eq_equiv}
@@ -49,9 +49,6 @@ put_there cache at page = is_there (lookup (nat_eq at) (put_entries nat_eq cache
 
 -- ---- where pages begin
 
-pub none_begins : (first last : ℕ) (kept : Kept) → kept ≡ [] → BeginWithin first last kept
-none_begins first last kept none = subst (BeginWithin first last) (sym none) (record { each = λ e there. absurd (search rules) })
-
 pub begin_wider : (first last earlier later : ℕ) (kept : Kept) → BeginWithin first last kept → earlier ≤ first → last ≤ later → BeginWithin earlier later kept
 begin_wider first last earlier later kept begin low high = record { each = λ e there. let up = begin.each e there in (omega (arith, up.0, low), omega (arith, up.1, high)) }
 
@@ -77,10 +74,6 @@ apart_read first last at n kept old new begin apart torn read = record {
     away : (e : ℕ × Page) → (first ≤ e.0) × (e.0 ≤ last) → (at + n ≤ first) ⊎ (last + 8192 ≤ at) → (e.0 + 8192 ≤ at) ⊎ (at + n ≤ e.0)
     away e up (inl low) = inr (omega (arith, low, up.0))
     away e up (inr high) = inl (omega (arith, high, up.1))
-
--- no pages are what any bytes read
-pub none_read : (file : List ℕ) → AreRead [] file
-none_read file = record { each = λ e there. absurd (search rules) }
 
 -- ---- why there is no page
 

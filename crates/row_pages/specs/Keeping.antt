@@ -1,7 +1,6 @@
 -- Pages that are kept in memory.
 use Rattle.std.specs.Prelude.{◌≡◌, ◌≤◌, ◌+◌, ℕ, List, length, drop, true, Option, Some, None, Result, Ok, Err, Contains}
 use Rattle.drda_words.specs.Place.{part}
-use Rattle.drda_disk.specs.Disk.{Life, Stays}
 use Rattle.drda_disk.specs.declared.through.ReadFault.{ReadFault}
 use Rattle.drda_disk.specs.declared.through.ReadFault.TheVariants as read
 use Rattle.row_pages.specs.Page.{IsPage, Page}
@@ -57,8 +56,3 @@ CountsPageFault (Ok x) old new = new ≡ old
 CountsPageFault (Err NoMemory) old new = new ≡ old
 CountsPageFault (Err Damaged) old new = new ≡ old
 CountsPageFault (Err DeviceFailed) old new = new ≡ old + 1
-
--- a page was asked for: nothing is written, and the device has failed once more exactly where that is told
-pub record IsLooked {T : Type 0} (result : Result T PageFault) (old new : Life) : Type 0 where
-  pub stays : Stays old new
-  pub faults : CountsPageFault result old.faults new.faults
