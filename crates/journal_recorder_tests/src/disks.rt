@@ -56,10 +56,7 @@ fn keeping(
     let disk = Untold::new(FuseDisk::new(disk, calls, false));
     let cache = PageCache::new(alloc, CACHED_PAGES).ok()?;
     let pager = Pager::over(disk, cache);
-    Some(Keeper::new(
-        alloc,
-        DiskRecorder::new(alloc, pager, journal, layout),
-    ))
+    Some(Keeper::new(alloc, DiskRecorder::new(alloc, pager, journal, layout)))
 }
 
 /// A recorder of a layout with an empty journal of so many bytes at 3 of a disk of 192, over a fuse of so many calls.

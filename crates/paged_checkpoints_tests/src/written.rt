@@ -103,10 +103,7 @@ fn refused(
     let told = held.checkpoint(alloc, held_back).err();
     let is_kept = shows(alloc, &mut held, &mut after)?;
     let mut again = open_held(alloc, held.into_disk())?;
-    Ok((
-        told,
-        is_kept && shows(alloc, &mut again, &mut before)?,
-    ))
+    Ok((told, is_kept && shows(alloc, &mut again, &mut before)?))
 }
 
 #[test]
