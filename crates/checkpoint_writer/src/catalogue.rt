@@ -1,6 +1,5 @@
 //! The catalogue of an image: where each of its tables lies.
 ghost use Rattle.std.specs.Prelude.{◌≡◌, ◌+◌, ◌*◌, ◌≤◌, ◌∷◌, ℕ, List, true, IsTrue, OnOk, length, map};
-ghost use Rattle.row_pages.specs.Keeping.{AreRead};
 ghost use Rattle.row_pages.specs.Laying.{IsShort, laid, pages_with};
 ghost use Rattle.row_values.specs.Schema.{is_name};
 ghost use Rattle.std.specs.List.{AllByRecursion};
@@ -15,7 +14,7 @@ use crate::rows::RowWriter;
 use crate::{ImageError, TablePlace};
 use drda_disk::Disk;
 use half_store::ImageWriter;
-use row_pages::{PageCache, PageCount, PageKind};
+use row_pages::{PageCount, PageKind};
 use row_values::Schema;
 use std::alloc::{AllocError, Global};
 
@@ -26,7 +25,6 @@ use std::alloc::{AllocError, Global};
 /// `Damaged` never. After a fault some of the pages may have been written. At any moment the active half stays what it is.
 pub fn write_catalogue<D: Disk>(
     alloc: Global,
-    cache: &mut PageCache,
     disk: &mut D,
     image: &mut ImageWriter,
     tables: &[TablePlace<'_>],
@@ -38,17 +36,16 @@ pub fn write_catalogue<D: Disk>(
     ensures pages { OnOk result (next_of image.new ≡ next_of image.old + 8192 * length (laid (rows_of (map place_of tables.now)))) }
     ensures short { OnOk result (AllByRecursion IsShort (rows_of (map place_of tables.now))) }
     ensures full { TellsFull result (end_of_half image.old) (next_of image.old + 8192 * length (laid (rows_of (map place_of tables.now)))) }
-    ensures kept { IsTrue D.is_modelled → AreRead cache.old (D.life disk.old).seen → AreRead cache.new (D.life disk.new).seen }
     ensures damaged { DamagedWhere ⊥ result }
     ensures cause { CountsImage result (D.life disk.old).faults (D.life disk.new).faults }
 {
     let mut rows = RowWriter::new(alloc, PageKind::Catalogue)?;
     let mut left = tables;
     while let [table, rest @ ..] = left {
-        rows.add(alloc, cache, disk, image, &entry_row(alloc, table)?)?;
+        rows.add(alloc, disk, image, &entry_row(alloc, table)?)?;
         left = rest;
     }
-    rows.finish(cache, disk, image)?;
+    rows.finish(disk, image)?;
     Ok(())
 }
 

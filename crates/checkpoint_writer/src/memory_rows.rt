@@ -1,7 +1,6 @@
 //! Writing the rows of a table that lie in memory.
 ghost use Rattle.std.specs.Prelude.{◌≡◌, ◌+◌, ◌*◌, ◌≤◌, ◌++◌, ◌∷◌, ℕ, List, IsTrue, OnOk, IfOk, length};
 ghost use Rattle.std.specs.List.{AllByRecursion};
-ghost use Rattle.row_pages.specs.Keeping.{AreRead};
 ghost use Rattle.row_pages.specs.Laying.{IsShort, laid};
 ghost use Rattle.key_map.specs.Merging.{InOrder};
 ghost use Rattle.key_map.specs.Walk.{rows_left};
@@ -16,7 +15,7 @@ use crate::merging::TableWriter;
 use drda_disk::Disk;
 use half_store::ImageWriter;
 use key_map::Rows;
-use row_pages::{PageCache, one_laying};
+use row_pages::one_laying;
 use std::alloc::Global;
 use table_map::TablePages;
 
@@ -30,7 +29,6 @@ use table_map::TablePages;
 pub fn write_rows<D: Disk>(
     alloc: Global,
     rows: Rows<'_>,
-    cache: &mut PageCache,
     disk: &mut D,
     image: &mut ImageWriter,
 ) -> Result<TablePages, ImageError>
@@ -42,7 +40,6 @@ pub fn write_rows<D: Disk>(
     ensures rows { (key_of : List ℕ → List ℕ) → IsTrue D.is_modelled → InOrder (rows_left rows.entry) → HaveKeys key_of (rows_left rows.entry)
         → IfOk result (λ written. IsImageOf key_of (rows_left rows.entry) written (D.life disk.new).seen) }
     ensures full { TellsFull result (end_of_half image.old) (next_of image.old + 8192 * length (laid (without_keys (rows_left rows.entry)))) }
-    ensures kept { IsTrue D.is_modelled → AreRead cache.old (D.life disk.old).seen → AreRead cache.new (D.life disk.new).seen }
     ensures damaged { DamagedWhere (AllByRecursion IsShort (without_keys (rows_left rows.entry)) → ⊥) result }
     ensures cause { CountsImage result (D.life disk.old).faults (D.life disk.new).faults }
 {
@@ -51,9 +48,9 @@ pub fn write_rows<D: Disk>(
     let mut left = rows;
     let mut writer = TableWriter::new(alloc)?;
     while let Some((key, row)) = left.next() {
-        writer.add_at(alloc, cache, disk, image, key, row)?;
+        writer.add_at(alloc, disk, image, key, row)?;
     }
     let TableWriter { rows, first_keys } = writer;
-    rows.finish(cache, disk, image)?;
+    rows.finish(disk, image)?;
     Ok(TablePages::new(at, first_keys))
 }

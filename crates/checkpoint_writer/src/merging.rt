@@ -1,6 +1,5 @@
 //! Writing all rows of a table into an image.
 ghost use Rattle.std.specs.Prelude.{◌≡◌, ◌+◌, ◌*◌, ◌≤◌, ◌++◌, ◌∷◌, [], ℕ, List, true, IsTrue, OnOk, IfOk, length};
-ghost use Rattle.row_pages.specs.Keeping.{AreRead};
 ghost use Rattle.row_pages.specs.Laying.{IsShort, laid};
 ghost use Rattle.std.specs.List.{AllByRecursion};
 ghost use Rattle.half_store.specs.Writing.{from_of, half_bytes_of, next_of};
@@ -15,7 +14,7 @@ use crate::rows::RowWriter;
 use drda_disk::Disk;
 use half_store::ImageWriter;
 use key_map::laws::changes_win;
-use row_pages::{PageCache, PageKind, one_laying};
+use row_pages::{PageKind, one_laying};
 use std::alloc::{AllocError, Global};
 use table_map::{NotedPages, NotedRows, RowKeys, TableMap, TablePages};
 
@@ -60,7 +59,6 @@ impl TableWriter {
         &mut self,
         alloc: Global,
         keys: &K,
-        cache: &mut PageCache,
         disk: &mut D,
         image: &mut ImageWriter,
         row: &[u8],
@@ -71,14 +69,13 @@ impl TableWriter {
             → OnOk result (HasLaid D.is_modelled (K.key_of keys.now) (D.life disk.new).seen start image.new self.new (rows ++ row.now ∷ [])) }
         ensures full { (start : ℕ) (rows rest : List (List ℕ)) → HasLaid D.is_modelled (K.key_of keys.now) (D.life disk.old).seen start image.old self.old rows
             → TellsFull result (end_of_half image.old) (start + 8192 * length (laid (rows ++ row.now ∷ rest))) }
-        ensures kept { IsTrue D.is_modelled → AreRead cache.old (D.life disk.old).seen → AreRead cache.new (D.life disk.new).seen }
         ensures damaged { DamagedWhere (IsShort row.now → ⊥) result }
         ensures cause { CountsImage result (D.life disk.old).faults (D.life disk.new).faults }
     {
         if row.len() > LONGEST_ROW_BYTES {
             return Err(ImageError::Damaged);
         }
-        if self.rows.add(alloc, cache, disk, image, row)? {
+        if self.rows.add(alloc, disk, image, row)? {
             push_key(&mut self.first_keys, keys.key(alloc, row)?)?;
         }
         Ok(())
@@ -88,7 +85,6 @@ impl TableWriter {
     pub(crate) fn add_at<D: Disk>(
         &mut self,
         alloc: Global,
-        cache: &mut PageCache,
         disk: &mut D,
         image: &mut ImageWriter,
         key: &[u8],
@@ -100,14 +96,13 @@ impl TableWriter {
             → OnOk result (HasLaidAt D.is_modelled (D.life disk.new).seen start image.new self.new (rows ++ (key.now, row.now) ∷ [])) }
         ensures full { (start : ℕ) (rows : Rows) (rest : List (List ℕ)) → HasLaidAt D.is_modelled (D.life disk.old).seen start image.old self.old rows
             → TellsFull result (end_of_half image.old) (start + 8192 * length (laid (without_keys rows ++ row.now ∷ rest))) }
-        ensures kept { IsTrue D.is_modelled → AreRead cache.old (D.life disk.old).seen → AreRead cache.new (D.life disk.new).seen }
         ensures damaged { DamagedWhere (IsShort row.now → ⊥) result }
         ensures cause { CountsImage result (D.life disk.old).faults (D.life disk.new).faults }
     {
         if row.len() > LONGEST_ROW_BYTES {
             return Err(ImageError::Damaged);
         }
-        if self.rows.add(alloc, cache, disk, image, row)? {
+        if self.rows.add(alloc, disk, image, row)? {
             push_key(&mut self.first_keys, Vec::from_slice(alloc, key)?)?;
         }
         Ok(())
@@ -125,7 +120,6 @@ pub fn merge_into<K: RowKeys, D: Disk>(
     alloc: Global,
     keys: &K,
     table: &TableMap,
-    cache: &mut PageCache,
     disk: &mut D,
     image: &mut ImageWriter,
 ) -> Result<NotedPages, ImageError>
@@ -134,17 +128,16 @@ pub fn merge_into<K: RowKeys, D: Disk>(
     ensures adds { AddsPages D.is_modelled (D.life disk.old) (D.life disk.new) image.old image.new }
     ensures at { IfOk result (λ written. written.pages.at ≡ next_of image.old) }
     ensures pages { IfOk result (λ written. next_of image.new ≡ written.pages.at + 8192 * length written.pages.keys) }
-    ensures rows { (pages : List (List (List ℕ))) → IsTrue D.is_modelled → AreRead cache.old (D.life disk.old).seen → IsStored (K.key_of keys.now) table.now.places pages (D.life disk.old).seen
+    ensures rows { (pages : List (List (List ℕ))) → IsTrue D.is_modelled → IsStored (K.key_of keys.now) table.now.places pages (D.life disk.old).seen
         → LieApart table.now.places image.old → HaveKeys (K.key_of keys.now) (rows_of_table (K.key_of keys.now) table.now pages)
         → IfOk result (λ written. IsImageOf (K.key_of keys.now) (rows_of_table (K.key_of keys.now) table.now pages) written.pages (D.life disk.new).seen) }
-    ensures noted { (pages : List (List (List ℕ))) → IsTrue D.is_modelled → AreRead cache.old (D.life disk.old).seen → IsStored (K.key_of keys.now) table.now.places pages (D.life disk.old).seen
+    ensures noted { (pages : List (List (List ℕ))) → IsTrue D.is_modelled → IsStored (K.key_of keys.now) table.now.places pages (D.life disk.old).seen
         → LieApart table.now.places image.old
         → IfOk result (λ written. written.rows.listed.value ≡ without_keys (rows_of_table (K.key_of keys.now) table.now pages)) }
-    ensures full { (pages : List (List (List ℕ))) → IsTrue D.is_modelled → AreRead cache.old (D.life disk.old).seen → IsStored (K.key_of keys.now) table.now.places pages (D.life disk.old).seen
+    ensures full { (pages : List (List (List ℕ))) → IsTrue D.is_modelled → IsStored (K.key_of keys.now) table.now.places pages (D.life disk.old).seen
         → LieApart table.now.places image.old
         → TellsFull result (end_of_half image.old) (next_of image.old + 8192 * length (laid (without_keys (rows_of_table (K.key_of keys.now) table.now pages)))) }
-    ensures kept { IsTrue D.is_modelled → AreRead cache.old (D.life disk.old).seen → AreRead cache.new (D.life disk.new).seen }
-    ensures damaged { (pages : List (List (List ℕ))) → IsTrue D.is_modelled → AreRead cache.old (D.life disk.old).seen → IsStored (K.key_of keys.now) table.now.places pages (D.life disk.old).seen
+    ensures damaged { (pages : List (List (List ℕ))) → IsTrue D.is_modelled → IsStored (K.key_of keys.now) table.now.places pages (D.life disk.old).seen
         → LieApart table.now.places image.old
         → DamagedWhere (AllByRecursion IsShort (without_keys (rows_of_table (K.key_of keys.now) table.now pages)) → ⊥) result }
     ensures cause { CountsImage result (D.life disk.old).faults (D.life disk.new).faults }
@@ -156,11 +149,11 @@ pub fn merge_into<K: RowKeys, D: Disk>(
     let mut writer = TableWriter::new(alloc)?;
     let mut noted = NotedRows::none();
     while let Some(row) = cursor.next(alloc, keys, disk)? {
-        writer.add(alloc, keys, cache, disk, image, row)?;
+        writer.add(alloc, keys, disk, image, row)?;
         noted.note(row);
     }
     let TableWriter { rows, first_keys } = writer;
-    rows.finish(cache, disk, image)?;
+    rows.finish(disk, image)?;
     Ok(NotedPages {
         pages: TablePages::new(at, first_keys),
         rows: noted,

@@ -1,7 +1,6 @@
 //! Writing one page.
-ghost use Rattle.std.specs.Prelude.{◌≡◌, ◌+◌, ◌*◌, ◌≤◌, ℕ, List, IsTrue, OnOk, length};
+ghost use Rattle.std.specs.Prelude.{◌≡◌, ◌+◌, ◌*◌, ◌≤◌, IsTrue, OnOk, length};
 ghost use Rattle.drda_words.specs.Place.{part};
-ghost use Rattle.row_pages.specs.Keeping.{AreRead};
 ghost use Rattle.half_store.specs.Writing.{from_of, half_bytes_of, next_of, pages_of};
 ghost use Rattle.checkpoint_writer.specs.Adding.{AddsPages, end_of_half};
 ghost use Rattle.checkpoint_writer.specs.Errors.{CountsImage, DamagedWhere, TellsFull};
@@ -9,12 +8,9 @@ ghost use Rattle.checkpoint_writer.specs.Errors.{CountsImage, DamagedWhere, Tell
 use crate::ImageError;
 use drda_disk::Disk;
 use half_store::ImageWriter;
-use row_pages::PageCache;
 
-/// Writes a page of 8,192 bytes behind the others. No page is kept then, since one that is could lie
-/// where this one is written.
+/// Writes a page of 8,192 bytes behind the others.
 pub(crate) fn write_page<D: Disk>(
-    cache: &mut PageCache,
     disk: &mut D,
     image: &mut ImageWriter,
     bytes: &[u8],
@@ -26,10 +22,8 @@ pub(crate) fn write_page<D: Disk>(
     ensures pages { OnOk result (pages_of image.new ≡ pages_of image.old + 1) }
     ensures full { TellsFull result (end_of_half image.old) (next_of image.old + 8192) }
     ensures damaged { DamagedWhere ⊥ result }
-    ensures kept { (file : List ℕ) → AreRead cache.new file }
     ensures cause { CountsImage result (D.life disk.old).faults (D.life disk.new).faults }
 {
-    cache.clear();
     image.page(disk, bytes)?;
     Ok(())
 }

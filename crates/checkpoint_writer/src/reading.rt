@@ -4,14 +4,13 @@ ghost use Rattle.drda_words.specs.Place.{part};
 ghost use Rattle.drda_disk.specs.Disk.{Stays};
 ghost use Rattle.row_values.specs.Bytes.{Reads};
 ghost use Rattle.row_pages.specs.Page.{IsPage};
-ghost use Rattle.row_pages.specs.Keeping.{AreRead};
 ghost use Rattle.checkpoint_writer.specs.Catalogue.{CatalogueIsRead, entries_in, entry_of};
 ghost use Rattle.checkpoint_writer.specs.ReadCatalogue.{CountsCatalogue, ReadsBytes, TellsCatalogue, catalogue_error};
 
 use crate::StoredTable;
 use crate::entry::read_entry;
 use drda_disk::Disk;
-use row_pages::{KeptPage, PAGE_BYTES, PageCache, PageFault, PageKind, one_laying, one_page};
+use row_pages::{KeptPage, PAGE_BYTES, PageFault, PageKind, Pager, one_laying, one_page};
 use row_values::ReadError;
 use std::alloc::Global;
 use thiserror::Error;
@@ -80,18 +79,16 @@ fn push_page(
 /// Appends the tables of the page at an offset.
 fn read_page<D: Disk>(
     alloc: Global,
-    cache: &mut PageCache,
-    disk: &mut D,
+    pager: &mut Pager<D>,
     at: usize,
     tables: &mut Vec<StoredTable>,
 ) -> Result<(), CatalogueError>
-    requires { at + 8192 ≤ length (D.life disk.old).seen }
-    ensures told { IsTrue D.is_modelled → AreRead cache.old (D.life disk.old).seen → ReadsBytes (part (D.life disk.old).seen at 8192) at tables.old.items result tables.new.items }
-    ensures kept { IsTrue D.is_modelled → AreRead cache.old (D.life disk.old).seen → AreRead cache.new (D.life disk.new).seen }
-    ensures stays { Stays (D.life disk.old) (D.life disk.new) }
-    ensures cause { CountsCatalogue result (D.life disk.old).faults (D.life disk.new).faults }
+    requires { at + 8192 ≤ length (D.life pager.old).seen }
+    ensures told { IsTrue D.is_modelled → ReadsBytes (part (D.life pager.old).seen at 8192) at tables.old.items result tables.new.items }
+    ensures stays { Stays (D.life pager.old) (D.life pager.new) }
+    ensures cause { CountsCatalogue result (D.life pager.old).faults (D.life pager.new).faults }
 {
-    match cache.page(alloc, disk, at) {
+    match pager.page(alloc, at) {
         Ok(page) => push_page(alloc, tables, page, at),
         Err(fault) => Err(error_at(at, fault)),
     }
@@ -102,23 +99,21 @@ fn read_page<D: Disk>(
 /// the first of them lies.
 pub fn read_catalogue<D: Disk>(
     alloc: Global,
-    cache: &mut PageCache,
-    disk: &mut D,
+    pager: &mut Pager<D>,
     at: usize,
     pages: usize,
 ) -> Result<Vec<StoredTable>, CatalogueError>
     requires small { at + 8192 * pages ≤ 2 ^ 40 }
-    requires inside { at + 8192 * pages ≤ length (D.life disk.old).seen }
-    ensures told { IsTrue D.is_modelled → AreRead cache.old (D.life disk.old).seen → TellsCatalogue (D.life disk.old).seen at pages result }
-    ensures kept { IsTrue D.is_modelled → AreRead cache.old (D.life disk.old).seen → AreRead cache.new (D.life disk.new).seen }
-    ensures stays { Stays (D.life disk.old) (D.life disk.new) }
-    ensures cause { CountsCatalogue result (D.life disk.old).faults (D.life disk.new).faults }
+    requires inside { at + 8192 * pages ≤ length (D.life pager.old).seen }
+    ensures told { IsTrue D.is_modelled → TellsCatalogue (D.life pager.old).seen at pages result }
+    ensures stays { Stays (D.life pager.old) (D.life pager.new) }
+    ensures cause { CountsCatalogue result (D.life pager.old).faults (D.life pager.new).faults }
 {
     let mut tables = Vec::new(alloc);
     let mut next = at;
     let mut left = pages;
     while left > 0 {
-        read_page(alloc, cache, disk, next, &mut tables)?;
+        read_page(alloc, pager, next, &mut tables)?;
         next += PAGE_BYTES;
         left -= 1;
     }

@@ -1,6 +1,5 @@
 //! Rows that are laid into pages one behind another.
 ghost use Rattle.std.specs.Prelude.{◌≡◌, ◌+◌, ◌*◌, ◌≤◌, ◌++◌, ◌∷◌, [], ℕ, List, true, IsTrue, OnOk, IfOk, length};
-ghost use Rattle.row_pages.specs.Keeping.{AreRead};
 ghost use Rattle.row_pages.specs.Laying.{IsShort, laid};
 ghost use Rattle.half_store.specs.Writing.{from_of, half_bytes_of, next_of};
 ghost use Rattle.table_map.specs.Keyed.{first_keys};
@@ -11,7 +10,7 @@ use crate::ImageError;
 use crate::page::write_page;
 use drda_disk::Disk;
 use half_store::ImageWriter;
-use row_pages::{PageBuilder, PageCache, PageKind};
+use row_pages::{PageBuilder, PageKind};
 use std::alloc::{AllocError, Global};
 
 /// Lays rows into the pages of an image, so that a page ends only where the next row does not fit. A
@@ -40,7 +39,6 @@ impl RowWriter {
     pub(crate) fn add<D: Disk>(
         &mut self,
         alloc: Global,
-        cache: &mut PageCache,
         disk: &mut D,
         image: &mut ImageWriter,
         row: &[u8],
@@ -55,7 +53,6 @@ impl RowWriter {
             → IfOk result (λ first. first_keys key_of (laid (rows ++ row.now ∷ [])) ≡ first_keys key_of (laid rows) ++ key_if first (key_of row.now)) }
         ensures full { (start : ℕ) (rows rest : List (List ℕ)) → IsLaying D.is_modelled (D.life disk.old).seen start image.old self.old rows
             → TellsFull result (end_of_half image.old) (start + 8192 * length (laid (rows ++ row.now ∷ rest))) }
-        ensures kept { IsTrue D.is_modelled → AreRead cache.old (D.life disk.old).seen → AreRead cache.new (D.life disk.new).seen }
         ensures damaged { DamagedWhere ⊥ result }
         ensures cause { CountsImage result (D.life disk.old).faults (D.life disk.new).faults }
     {
@@ -66,7 +63,7 @@ impl RowWriter {
                 Ok(first)
             }
             Some(full) => {
-                write_page(cache, disk, image, &full)?;
+                write_page(disk, image, &full)?;
                 self.is_empty = false;
                 Ok(true)
             }
@@ -76,7 +73,6 @@ impl RowWriter {
     /// Writes the page that is being filled, where it has rows.
     pub(crate) fn finish<D: Disk>(
         self,
-        cache: &mut PageCache,
         disk: &mut D,
         image: &mut ImageWriter,
     ) -> Result<(), ImageError>
@@ -88,14 +84,13 @@ impl RowWriter {
             → OnOk result (next_of image.new ≡ start + 8192 * length (laid rows)) }
         ensures full { (start : ℕ) (rows : List (List ℕ)) → IsLaying D.is_modelled (D.life disk.old).seen start image.old self rows
             → TellsFull result (end_of_half image.old) (start + 8192 * length (laid rows)) }
-        ensures kept { IsTrue D.is_modelled → AreRead cache.old (D.life disk.old).seen → AreRead cache.new (D.life disk.new).seen }
         ensures damaged { DamagedWhere ⊥ result }
         ensures cause { CountsImage result (D.life disk.old).faults (D.life disk.new).faults }
     {
         if self.is_empty {
             return Ok(());
         }
-        write_page(cache, disk, image, &self.page.finish())?;
+        write_page(disk, image, &self.page.finish())?;
         Ok(())
     }
 }

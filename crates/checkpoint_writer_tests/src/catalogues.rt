@@ -7,7 +7,7 @@ use crate::stores::{Run, STORE_BYTES};
 use checkpoint_writer::{ImageError, StoredTable, TablePlace, read_catalogue, write_catalogue};
 use drda_disk::Disk;
 use half_store::ImageWriter;
-use row_pages::PageCache;
+use row_pages::Pager;
 use std::alloc::{AllocError, Global};
 use test_rows::schema_of;
 
@@ -15,11 +15,10 @@ use test_rows::schema_of;
 /// key.
 pub fn list<D: Disk>(
     alloc: Global,
-    cache: &mut PageCache,
-    disk: &mut D,
+    pager: &mut Pager<D>,
     image: &mut ImageWriter,
 ) -> Result<(), ImageError>
-    requires { from_of image.old + half_bytes_of image.old ≤ length (D.life disk.old).seen }
+    requires { from_of image.old + half_bytes_of image.old ≤ length (D.life pager.old).seen }
 {
     let Some(Some(schema)) = schema_of(alloc, &["A,INTEGER,not,0", "0"]) else {
         return Err(ImageError::NoMemory);
@@ -39,7 +38,7 @@ pub fn list<D: Disk>(
             pages: 2,
         },
     ];
-    write_catalogue(alloc, cache, disk, image, &tables)
+    write_catalogue(alloc, pager, image, &tables)
 }
 
 // Changes a byte of a page at a place, where there is one to change, and reads the page's first bytes.
@@ -58,18 +57,17 @@ fn front<D: Disk>(disk: &mut D, at: usize, change: &str) -> [u8; 48] {
 /// Tells the first bytes of a catalogue's pages, and its tables, once a byte of it at a place is changed, or none is.
 pub fn tell_catalogue<D: Disk>(
     alloc: Global,
-    cache: &mut PageCache,
-    disk: &mut D,
+    pager: &mut Pager<D>,
     run: Run,
     change: &str,
     out: &mut String,
 ) -> Result<(), AllocError> {
-    let front = front(disk, run.at, change);
+    let front = front(pager, run.at, change);
     writeln!(out, "  {front:?}")?;
-    if run.at > STORE_BYTES || run.pages > 100 || run.at + 8_192 * run.pages > disk.size() {
+    if run.at > STORE_BYTES || run.pages > 100 || run.at + 8_192 * run.pages > pager.size() {
         return Ok(());
     }
-    match read_catalogue(alloc, cache, disk, run.at, run.pages) {
+    match read_catalogue(alloc, pager, run.at, run.pages) {
         Ok(tables) => tell_tables(&tables, out),
         Err(fault) => writeln!(out, "  {fault:?}"),
     }

@@ -6,7 +6,7 @@ use crate::keys::{FirstByte, byte_of, pair};
 use crate::stores::{Run, STORE_BYTES};
 use drda_disk::Disk;
 use key_map::OrderedRows;
-use row_pages::{PageCache, PageFault};
+use row_pages::{PageFault, Pager};
 use std::alloc::{AllocError, Global};
 use table_map::{TableMap, TablePages};
 use tables::Rows;
@@ -28,18 +28,17 @@ fn change(alloc: Global, table: &mut TableMap, key: u8, length: usize) -> Result
 /// A table with these pages and changes.
 pub fn table_with<D: Disk>(
     alloc: Global,
-    cache: &mut PageCache,
-    disk: &mut D,
+    pager: &mut Pager<D>,
     base: Run,
     changes: &str,
 ) -> Result<TableMap, PageFault>
-    ensures inside { IfOk result (λ table. table.places.at + 8192 * length table.places.keys ≤ length (D.life disk.new).seen) }
-    ensures stays { Stays (D.life disk.old) (D.life disk.new) }
+    ensures inside { IfOk result (λ table. table.places.at + 8192 * length table.places.keys ≤ length (D.life pager.new).seen) }
+    ensures stays { Stays (D.life pager.old) (D.life pager.new) }
 {
-    if base.at > STORE_BYTES || base.pages > 200 || base.at + 8_192 * base.pages > disk.size() {
+    if base.at > STORE_BYTES || base.pages > 200 || base.at + 8_192 * base.pages > pager.size() {
         return Err(PageFault::DeviceFailed);
     }
-    let pages = TablePages::open(alloc, &FirstByte, cache, disk, base.at, base.pages)?;
+    let pages = TablePages::open(alloc, &FirstByte, pager, base.at, base.pages)?;
     let mut table = TableMap::new(alloc, pages);
     for word in changes.split_ascii_whitespace() {
         let (key, length) = pair(word);
@@ -63,15 +62,10 @@ pub fn rows_of(alloc: Global, changes: &str) -> Result<OrderedRows, AllocError> 
 }
 
 // All rows of these pages.
-fn read<D: Disk>(
-    alloc: Global,
-    cache: &mut PageCache,
-    disk: &mut D,
-    run: Run,
-) -> Result<Rows, PageFault> {
-    let table = table_with(alloc, cache, disk, run, "")?;
+fn read<D: Disk>(alloc: Global, pager: &mut Pager<D>, run: Run) -> Result<Rows, PageFault> {
+    let table = table_with(alloc, pager, run, "")?;
     let mut rows = Rows::new(alloc);
-    table.scan_into(alloc, &FirstByte, cache, disk, &mut rows)?;
+    table.scan_into(alloc, &FirstByte, pager, &mut rows)?;
     Ok(rows)
 }
 
@@ -89,12 +83,11 @@ fn say_rows(rows: &Rows, out: &mut String) -> Result<(), AllocError> {
 /// Tells of each row of these pages the byte that it is filled with, and its length.
 pub fn tell_rows<D: Disk>(
     alloc: Global,
-    cache: &mut PageCache,
-    disk: &mut D,
+    pager: &mut Pager<D>,
     run: Run,
     out: &mut String,
 ) -> Result<(), AllocError> {
-    match read(alloc, cache, disk, run) {
+    match read(alloc, pager, run) {
         Ok(rows) => say_rows(&rows, out),
         Err(fault) => writeln!(out, "  {fault:?}"),
     }

@@ -9,37 +9,35 @@ use crate::stores::{Run, STORE_BYTES, new_store, number};
 use checkpoint_writer::{ImageError, merge_into, write_rows};
 use drda_disk::Disk;
 use half_store::{Active, ImageWriter, begin_image};
-use row_pages::PageCache;
+use row_pages::{PageCache, Pager};
 use std::alloc::{AllocError, Global};
 
 // Writes the rows of these pages with these changes.
 fn merge<D: Disk>(
     alloc: Global,
-    cache: &mut PageCache,
-    disk: &mut D,
+    pager: &mut Pager<D>,
     image: &mut ImageWriter,
     base: Run,
     changes: &str,
 ) -> Result<(), ImageError>
-    requires { from_of image.old + half_bytes_of image.old ≤ length (D.life disk.old).seen }
+    requires { from_of image.old + half_bytes_of image.old ≤ length (D.life pager.old).seen }
 {
-    let table = table_with(alloc, cache, disk, base, changes)?;
-    merge_into(alloc, &FirstByte, &table, cache, disk, image)?;
+    let table = table_with(alloc, pager, base, changes)?;
+    merge_into(alloc, &FirstByte, &table, pager, image)?;
     Ok(())
 }
 
 // Writes rows that lie in memory.
 fn lay<D: Disk>(
     alloc: Global,
-    cache: &mut PageCache,
-    disk: &mut D,
+    pager: &mut Pager<D>,
     image: &mut ImageWriter,
     changes: &str,
 ) -> Result<(), ImageError>
-    requires { from_of image.old + half_bytes_of image.old ≤ length (D.life disk.old).seen }
+    requires { from_of image.old + half_bytes_of image.old ≤ length (D.life pager.old).seen }
 {
     let rows = rows_of(alloc, changes)?;
-    write_rows(alloc, rows.rows(), cache, disk, image)?;
+    write_rows(alloc, rows.rows(), pager, image)?;
     Ok(())
 }
 
@@ -47,22 +45,21 @@ fn lay<D: Disk>(
 // there.
 fn written<D: Disk>(
     alloc: Global,
-    cache: &mut PageCache,
-    disk: &mut D,
+    pager: &mut Pager<D>,
     active: &Active,
     base: Run,
     (verb, changes): (&str, &str),
 ) -> Result<Run, ImageError> {
-    cache.clear();
-    if disk.size() != STORE_BYTES {
+    pager.forget();
+    if pager.size() != STORE_BYTES {
         return Err(ImageError::Damaged);
     }
-    let mut image = begin_image(disk, active)?;
+    let mut image = begin_image(pager, active)?;
     let at = image.finish_pages().at;
     let done = match verb {
-        "merge" => merge(alloc, cache, disk, &mut image, base, changes),
-        "memory" => lay(alloc, cache, disk, &mut image, changes),
-        _ => list(alloc, cache, disk, &mut image),
+        "merge" => merge(alloc, pager, &mut image, base, changes),
+        "memory" => lay(alloc, pager, &mut image, changes),
+        _ => list(alloc, pager, &mut image),
     };
     done?;
     Ok(Run {
@@ -74,23 +71,22 @@ fn written<D: Disk>(
 // Tells how many pages there are once it is written, and what is read of them. Where it is not, the base stays.
 fn tell_step<D: Disk>(
     alloc: Global,
-    cache: &mut PageCache,
-    disk: &mut D,
+    pager: &mut Pager<D>,
     active: &Active,
     base: &mut Run,
     (verb, step): (&str, &str),
     out: &mut String,
 ) -> Result<(), AllocError> {
-    match written(alloc, cache, disk, active, *base, (verb, step)) {
+    match written(alloc, pager, active, *base, (verb, step)) {
         Ok(run) => *base = run,
         Err(fault) => return writeln!(out, "  {fault:?}"),
     }
     let pages = base.pages;
     writeln!(out, "  {pages} pages")?;
-    cache.clear();
+    pager.forget();
     match verb {
-        "catalogue" => tell_catalogue(alloc, cache, disk, *base, step, out),
-        _ => tell_rows(alloc, cache, disk, *base, out),
+        "catalogue" => tell_catalogue(alloc, pager, *base, step, out),
+        _ => tell_rows(alloc, pager, *base, out),
     }
 }
 
@@ -103,13 +99,14 @@ pub fn tell_written(
     out: &mut String,
 ) -> Result<(), AllocError> {
     let (calls, steps) = asked.split_once(' ').unwrap_or((asked, ""));
-    let mut cache = PageCache::new(alloc, 2)?;
-    let (mut disk, mut active) = new_store(alloc, number(calls))?;
+    let cache = PageCache::new(alloc, 2)?;
+    let (disk, mut active) = new_store(alloc, number(calls))?;
+    let mut pager = Pager::over(disk, cache);
     let mut base = Run { at: 0, pages: 0 };
     let mut done = Ok(());
     for step in steps.split('/') {
         let asked = (verb, step);
-        done = tell_step(alloc, &mut cache, &mut disk, &active, &mut base, asked, out);
+        done = tell_step(alloc, &mut pager, &active, &mut base, asked, out);
         if done.is_err() {
             break;
         }

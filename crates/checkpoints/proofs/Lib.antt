@@ -4,4 +4,3 @@ pub mod Moving
 mod Holding
 pub mod Ending
 pub mod ReadBack
-pub mod Kept

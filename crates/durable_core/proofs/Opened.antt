@@ -5,7 +5,6 @@ use Rattle.drda_disk.specs.Region.{end_of}
 use Rattle.half_store.specs.Layout.{half_len}
 use Rattle.half_store.specs.declared.header.Layout.{Layout}
 use Rattle.paged_tables.specs.TablesByName.{AreOnPages, LieInside, LieOutside, PagesStay, Tables}
-use Rattle.checkpoints.proofs.Kept.{none_kept}
 use Rattle.unit_journal.specs.Journal.{IsSettled, held_of, region_of}
 use Rattle.unit_journal.specs.declared.journal.Journal.{Journal}
 use Rattle.recovery.specs.Durable.{Durable}
@@ -15,7 +14,7 @@ use Rattle.recovery.specs.Kept.{IsKept}
 use Rattle.recovery.specs.StepLaws.{OpeningsAreKept}
 use Rattle.recovery.specs.Part.{durable_part, opened}
 use Rattle.journal_recorder.specs.Reading.{HasPages}
-use Rattle.journal_recorder.specs.Recording.{cache_of, disk_of, journal_of, layout_of, made_of}
+use Rattle.journal_recorder.specs.Recording.{disk_of, journal_of, layout_of, made_of}
 use Rattle.journal_recorder.specs.declared.recorder.DiskRecorder.{DiskRecorder}
 use Rattle.recovery.specs.Opens.{Holds}
 use Rattle.durable_core.specs.Recorded.{IsOnDisk, IsRecorded}
@@ -51,14 +50,13 @@ module _ {D : Type 0} (modelled : Bool) (life : D → Life) (laws : OpeningsAreK
   }
 
   -- and the pages of its tables can be read
-  pub has_pages : (t : Tables) → PagesStay f.store.tables t → cache_of r ≡ f.cache → HasPages modelled life r t
-  has_pages t stays same_cache =
+  pub has_pages : (t : Tables) → PagesStay f.store.tables t → HasPages modelled life r t
+  has_pages t stays =
       let region = region_of f.journal in
       record {
         inside = subst (λ (x : D). LieInside (length (life x).seen) t) (sym same_disk) (stays.inside (length (life disk).seen) (found.pages.inside (length (life disk).seen) found.front));
         front = λ is. subst (λ (j : Journal). LieInside (region_of j).at t) (sym same_journal) (stays.inside region.at (found.pages.inside region.at (omega arith)));
         behind = λ is. subst (λ (j : Journal). LieOutside 0 (end_of (region_of j) - half_len (length (life (disk_of r)).seen)) t) (sym same_journal)
             (subst (λ (x : D). LieOutside 0 (end_of region - half_len (length (life x).seen)) t) (sym same_disk) (stays.apart 0 (end_of region - half_len (length (life disk).seen)) found.pages.apart));
-        read = λ is going. none_kept (cache_of r) (life (disk_of r)).seen (same_cache ∙ found.none_kept);
         stand = λ is going. subst (λ (x : D). AreOnPages (life x).seen t) (sym same_disk) (stays.stand (life disk).seen (found.pages.stand is));
       }

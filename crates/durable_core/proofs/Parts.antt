@@ -1,5 +1,5 @@
 -- The parts of a store that were read: they stand there, and what opens is not refused.
-use Rattle.std.proofs.Common.{◌≡◌, ℕ, ◌+◌, ◌-◌, ◌*◌, ◌≤◌, Bool, true, IsTrue, string_bytes, List, [], length, Result, Ok, Err, sym, ◌∙◌, ap, subst, arith}
+use Rattle.std.proofs.Common.{◌≡◌, ℕ, ◌+◌, ◌-◌, ◌*◌, ◌≤◌, Bool, true, IsTrue, string_bytes, List, length, Result, Ok, Err, sym, ◌∙◌, ap, subst, arith}
 use Rattle.drda_disk.specs.Disk.{Life}
 use Rattle.drda_disk.specs.Region.{end_of}
 use Rattle.drda_disk.specs.declared.region.Region.{Region}
@@ -116,9 +116,9 @@ module _ (modelled : Bool) (last : Life) (image : List ℕ) (a : Active) (tables
     room = omega (arith, f.journal.fits, settled.next, held);
   }
 
-  pub found_all : LeadsAreSound → is_store tables ≡ true → IsInside (length image) a.region → ArePagesInside (length image) a → StandInFront modelled image a.region f.store.tables → f.cache ≡ []
+  pub found_all : LeadsAreSound → is_store tables ≡ true → IsInside (length image) a.region → ArePagesInside (length image) a → StandInFront modelled image a.region f.store.tables
       → (IsTrue modelled → IsHead image a) → (IsTrue modelled → HasCheckpoint image (pages_of a) tables) → (IsTrue modelled → IsSettled modelled last f.journal es) → IsFound modelled last f
-  found_all sound good inside pages stand none head has settled = record {
+  found_all sound good inside pages stand head has settled = record {
     sound = subst IsSound (sym same) (sound tables d es good leads);
     held = held;
     inside = subst (λ (i : List ℕ). end_of (region_of f.journal) ≤ length i) (sym seen) (subst (λ (g : Region). end_of g ≤ length image) (sym region) inside.inside);
@@ -129,7 +129,6 @@ module _ (modelled : Bool) (last : Life) (image : List ℕ) (a : Active) (tables
     };
     front = subst (λ (i : List ℕ). (region_of f.journal).at ≤ length i) (sym seen) (subst (λ (g : Region). g.at ≤ length image) (sym region) pages.inside);
     pages = subst (λ (i : List ℕ). StandInFront modelled i (region_of f.journal) f.store.tables) (sym seen) (subst (λ (g : Region). StandInFront modelled image g f.store.tables) (sym region) stand);
-    none_kept = none;
   }
 
 -- a journal that holds more stands as it did

@@ -1,5 +1,5 @@
 -- What is read of a store before its core is made.
-use Rattle.std.specs.Prelude.{◌≡◌, ℕ, ◌-◌, ◌≤◌, Bool, IsTrue, List, [], length, string_bytes}
+use Rattle.std.specs.Prelude.{◌≡◌, ℕ, ◌-◌, ◌≤◌, Bool, IsTrue, List, length, string_bytes}
 use Rattle.drda_disk.specs.Disk.{Life}
 use Rattle.drda_disk.specs.Region.{end_of}
 use Rattle.drda_disk.specs.declared.region.Region.{Region}
@@ -40,4 +40,3 @@ pub record IsFound (modelled : Bool) (disk : Life) (f : Found) : Type 0 where
   pub stands : IsTrue modelled → StandsThere modelled disk f
   pub front : (region_of f.journal).at ≤ length disk.seen
   pub pages : StandInFront modelled disk.seen (region_of f.journal) f.store.tables
-  pub none_kept : f.cache ≡ []

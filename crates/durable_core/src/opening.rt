@@ -22,7 +22,7 @@ use rdb_core::Core;
 use recovery::images::{images_open_there, images_open_to_one_state};
 use recovery::laws::{records_lead_one_way, records_lead_to_sound_states};
 use recovery::step_laws::openings_are_kept;
-use row_pages::PageCache;
+use row_pages::{PageCache, Pager};
 use std::alloc::{AllocError, Global};
 use store_check::checkpoints_are_known;
 use unit_journal::a_region_has_one_reading;
@@ -44,38 +44,56 @@ pub fn open<D: Disk>(alloc: Global, disk: D) -> Result<DurableCore<D>, Refused<D
     ensures stays { Stays (D.life disk) (D.life (disk_in result)) }
     ensures cause { CountsOpen result (D.life disk).faults (D.life (disk_in result)).faults }
 {
+    match PageCache::new(alloc, CACHED_PAGES) {
+        Ok(cache) => open_paged(alloc, Pager::over(disk, cache)),
+        Err(AllocError) => Err(Refused {
+            disk,
+            error: OpenError::NoMemory,
+        }),
+    }
+}
+
+// The same, of a disk that is lent as one with the pages of it that are kept.
+fn open_paged<D: Disk>(alloc: Global, pager: Pager<D>) -> Result<DurableCore<D>, Refused<D>>
+    ensures opens { (name : List ℕ) (d : Durable) → IsTrue D.is_modelled → OpensTo name d (D.life pager).seen → Finds name d result }
+    ensures found { IsTrue D.is_modelled → IfOk result (StoodThere (D.life pager).seen) }
+    ensures tells { IsTrue D.is_modelled → OpensStore result (D.life pager).seen }
+    ensures stays { Stays (D.life pager) (D.life (disk_in result)) }
+    ensures cause { CountsOpen result (D.life pager).faults (D.life (disk_in result)).faults }
+{
     images_open_to_one_state();
-    let mut disk = disk;
-    match read_store(alloc, &mut disk) {
-        Ok(found) => begin(alloc, disk, found),
-        Err(error) => Err(Refused { disk, error }),
+    let mut pager = pager;
+    match read_store(alloc, &mut pager) {
+        Ok(found) => begin(alloc, pager, found),
+        Err(error) => Err(Refused {
+            disk: pager.into_disk(),
+            error,
+        }),
     }
 }
 
 // The parts of the store that a disk is.
-fn read_store<D: Disk>(alloc: Global, disk: &mut D) -> Result<Found, OpenError>
-    ensures found { IfOk result (IsFound D.is_modelled (D.life disk.new)) }
-    ensures opens { (name : List ℕ) (d : Durable) → IsTrue D.is_modelled → OpensTo name d (D.life disk.old).seen → IsPlain result }
-    ensures tells { IsTrue D.is_modelled → TellsStore result (D.life disk.old).seen }
-    ensures stays { Stays (D.life disk.old) (D.life disk.new) }
-    ensures cause { Counts result (D.life disk.old).faults (D.life disk.new).faults }
+fn read_store<D: Disk>(alloc: Global, pager: &mut Pager<D>) -> Result<Found, OpenError>
+    ensures found { IfOk result (IsFound D.is_modelled (D.life pager.new)) }
+    ensures opens { (name : List ℕ) (d : Durable) → IsTrue D.is_modelled → OpensTo name d (D.life pager.old).seen → IsPlain result }
+    ensures tells { IsTrue D.is_modelled → TellsStore result (D.life pager.old).seen }
+    ensures stays { Stays (D.life pager.old) (D.life pager.new) }
+    ensures cause { Counts result (D.life pager.old).faults (D.life pager.new).faults }
 {
     records_lead_one_way();
     records_lead_to_sound_states();
     images_open_there();
     checkpoints_are_known();
     a_region_has_one_reading();
-    let active = read_head(alloc, disk)?;
-    let mut cache = PageCache::new(alloc, CACHED_PAGES)?;
-    let tables = read_tables(alloc, &mut cache, disk, &active)?;
-    cache.clear();
+    let active = read_head(alloc, pager)?;
+    let tables = read_tables(alloc, pager, &active)?;
     let Active {
         name,
         layout,
         region,
         ..
     } = active;
-    let (mut journal, records) = read_journal(alloc, disk, region)?;
+    let (mut journal, records) = read_journal(alloc, pager, region)?;
     let (store, units) = read_units(alloc, layout, tables, records.as_slice())?.into_parts();
     hold_all(
         alloc,
@@ -89,19 +107,22 @@ fn read_store<D: Disk>(alloc: Global, disk: &mut D) -> Result<Found, OpenError>
         layout,
         journal,
         store,
-        cache,
         units,
     })
 }
 
-// The core over a disk of which this was read.
-fn begin<D: Disk>(alloc: Global, disk: D, found: Found) -> Result<DurableCore<D>, Refused<D>>
-    requires { IsFound D.is_modelled (D.life disk) found }
+// The core over a disk of which this was read. No page that was checked is kept.
+fn begin<D: Disk>(
+    alloc: Global,
+    pager: Pager<D>,
+    found: Found,
+) -> Result<DurableCore<D>, Refused<D>>
+    requires { IsFound D.is_modelled (D.life pager) found }
     ensures ok { IfOk result (IsOpenedTo (name_in found) (durable_in found)) }
     ensures room { IfOk result (λ core. core.room ≡ room_of found.journal) }
     ensures layout { IfOk result (λ core. core.layout ≡ found.layout) }
     ensures err { IfErr result (λ refused. refused.error ≡ OpenError.NoMemory) }
-    ensures disk { disk_in result ≡ disk }
+    ensures disk { disk_in result ≡ pager }
 {
     openings_are_kept();
     let Found {
@@ -109,10 +130,11 @@ fn begin<D: Disk>(alloc: Global, disk: D, found: Found) -> Result<DurableCore<D>
         layout,
         journal,
         store,
-        cache,
         units,
     } = found;
-    let recorder = DiskRecorder::new(alloc, disk, cache, journal, layout);
+    let mut pager = pager;
+    pager.forget();
+    let recorder = DiskRecorder::new(alloc, pager, journal, layout);
     let mut core = Core::restored(alloc, recorder, store);
     match restore_all(&mut core, units) {
         Ok(()) => Ok(DurableCore { name, core }),

@@ -1,6 +1,6 @@
 //! What is read of a store.
 
-ghost use Rattle.std.specs.Prelude.{◌≡◌, [], IfOk, IsTrue, List, ℕ, length, true};
+ghost use Rattle.std.specs.Prelude.{◌≡◌, IfOk, IsTrue, List, ℕ, length, true};
 ghost use Rattle.drda_disk.specs.Disk.{Stays};
 ghost use Rattle.unit_journal.specs.Journal.{held_of, region_of};
 ghost use Rattle.unit_journal.specs.Opened.{IsOpened};
@@ -25,43 +25,40 @@ use half_store::{Active, Layout};
 use paged_checkpoints::open_checkpoint;
 use paged_tables::PagedTables;
 use recovery::{PreparedUnit, Replay, ReplayError, replay};
-use row_pages::PageCache;
+use row_pages::Pager;
 use std::alloc::Global;
 use store_check::{CheckError, checkpoints_are_known};
 use unit_journal::{Journal, Record};
 
-/// The name of a store, the layout of its active half, its journal, its committed tables over their pages, with a cache
-/// of these, and its branches in doubt.
+/// The name of a store, the layout of its active half, its journal, its committed tables over their pages, and its
+/// branches in doubt.
 #[derive(Drop)]
 pub(crate) struct Found {
     pub(crate) name: String,
     pub(crate) layout: Layout,
     pub(crate) journal: Journal,
     pub(crate) store: PagedTables,
-    pub(crate) cache: PageCache,
     pub(crate) units: Vec<PreparedUnit>,
 }
 
-/// The tables of the last checkpoint, over the pages of the active half: all of these are checked, by a cache that has none
-/// yet, and no row is kept in memory.
+/// The tables of the last checkpoint, over the pages of the active half: all of these are checked, and no row is kept in
+/// memory.
 pub(crate) fn read_tables<D: Disk>(
     alloc: Global,
-    cache: &mut PageCache,
-    disk: &mut D,
+    pager: &mut Pager<D>,
     active: &Active,
 ) -> Result<PagedTables, OpenError>
-    requires pages { ArePagesInside (length (D.life disk.old).seen) active.now }
-    requires none { cache.old ≡ [] }
-    ensures laid { IsTrue D.is_modelled → IfOk result (λ store. HasCheckpoint (D.life disk.old).seen (pages_of active.now) (store_in store)) }
+    requires { ArePagesInside (length (D.life pager.old).seen) active.now }
+    ensures laid { IsTrue D.is_modelled → IfOk result (λ store. HasCheckpoint (D.life pager.old).seen (pages_of active.now) (store_in store)) }
     ensures store { IfOk result (λ store. is_store (store_in store) ≡ true) }
-    ensures stand { IfOk result (λ store. StandInFront D.is_modelled (D.life disk.old).seen active.now.region store.tables) }
-    ensures opens { (tables : Tables) → IsTrue D.is_modelled → HasCheckpoint (D.life disk.old).seen (pages_of active.now) tables → IsPlain result }
-    ensures tells { IsTrue D.is_modelled → TellsDamage result (BreaksHalf forms (D.life disk.old).seen (pages_of active.now)) }
-    ensures stays { Stays (D.life disk.old) (D.life disk.new) }
-    ensures cause { Counts result (D.life disk.old).faults (D.life disk.new).faults }
+    ensures stand { IfOk result (λ store. StandInFront D.is_modelled (D.life pager.old).seen active.now.region store.tables) }
+    ensures opens { (tables : Tables) → IsTrue D.is_modelled → HasCheckpoint (D.life pager.old).seen (pages_of active.now) tables → IsPlain result }
+    ensures tells { IsTrue D.is_modelled → TellsDamage result (BreaksHalf forms (D.life pager.old).seen (pages_of active.now)) }
+    ensures stays { Stays (D.life pager.old) (D.life pager.new) }
+    ensures cause { Counts result (D.life pager.old).faults (D.life pager.new).faults }
 {
     checkpoints_are_known();
-    match open_checkpoint(alloc, cache, disk, active) {
+    match open_checkpoint(alloc, pager, active) {
         Ok(tables) => Ok(tables),
         Err(CheckError::Damaged { at }) => Err(OpenError::Damaged { at }),
         Err(CheckError::DeviceFailed) => Err(OpenError::DeviceFailed),

@@ -4,14 +4,13 @@ use Rattle.drda_disk.specs.Disk.{Life}
 use Rattle.drda_disk.specs.Region.{SameOutside, end_of}
 use Rattle.drda_disk.specs.declared.region.Region.{Region}
 use Rattle.half_store.specs.Layout.{half_len}
-use Rattle.row_pages.specs.Keeping.{AreRead}
 use Rattle.paged_tables.specs.TablesByName.{AreOnPages, LieInside, LieOutside, Tables}
 use Rattle.unit_journal.specs.Journal.{region_of}
 use Rattle.unit_records.specs.Records.{UnitRecord}
 use Rattle.unit_records.specs.declared.record_error.RecordError.{RecordError}
 use Rattle.unit_records.specs.declared.record_error.RecordError.TheVariants as record_error
 use Rattle.journal_recorder.specs.Reading.{HasPages, PagesAreKept}
-use Rattle.journal_recorder.specs.Recording.{Fails, cache_of, disk_of, has_failed, journal_of}
+use Rattle.journal_recorder.specs.Recording.{Fails, disk_of, has_failed, journal_of}
 use Rattle.journal_recorder.specs.declared.recorder.DiskRecorder.{DiskRecorder}
 use Rattle.journal_recorder.proofs.Standing.{all_move, in_front}
 
@@ -22,38 +21,35 @@ module _ {D : Type 0} (modelled : Bool) (life : D → Life) where
   abbrev seen : DiskRecorder D → List ℕ
   seen r = (life (disk_of r)).seen
 
-  -- The places stay. What stands there and is kept is asked for only as long as the device has not failed.
+  -- The places stay. What stands there is asked for only as long as the device has not failed.
   pub placed : (old new : DiskRecorder D) (tables : Tables) → length (seen new) ≡ length (seen old) → region_of (journal_of new) ≡ region_of (journal_of old)
-      → (IsTrue modelled → has_failed new ≡ false → AreRead (cache_of new) (seen new)) → (IsTrue modelled → has_failed new ≡ false → AreOnPages (seen new) tables) → HasPages modelled life old tables → HasPages modelled life new tables
-  placed old new tables size region read stand has = record {
+      → (IsTrue modelled → has_failed new ≡ false → AreOnPages (seen new) tables) → HasPages modelled life old tables → HasPages modelled life new tables
+  placed old new tables size region stand has = record {
     inside = subst (λ (n : ℕ). LieInside n tables) (sym size) has.inside;
     front = λ m. subst (λ (r : Region). LieInside r.at tables) (sym region) (has.front m);
     behind = λ m. subst (λ (n : ℕ). LieOutside 0 (end_of (region_of (journal_of new)) - half_len n) tables) (sym size)
         (subst (λ (r : Region). LieOutside 0 (end_of r - half_len (length (seen old))) tables) (sym region) (has.behind m));
-    read = read;
     stand = stand;
   }
 
   -- behind the pages something was written
   written : (old new : DiskRecorder D) (tables : Tables) → SameOutside (region_of (journal_of old)) (seen old) (seen new) → region_of (journal_of new) ≡ region_of (journal_of old)
-      → (has_failed new ≡ false → (has_failed old ≡ false) × (AreRead (cache_of old) (seen old) → AreRead (cache_of new) (seen new))) → HasPages modelled life old tables → HasPages modelled life new tables
+      → (has_failed new ≡ false → has_failed old ≡ false) → HasPages modelled life old tables → HasPages modelled life new tables
   written old new tables others region going has =
       placed old new tables others.size region
-      (λ m g. (going g).1 (has.read m (going g).0))
-      (λ m g. all_move (seen old) (seen new) (region_of (journal_of old)).at (region_of (journal_of old)).length tables others (in_front (region_of (journal_of old)).at _ tables (has.front m)) (has.stand m (going g).0))
+      (λ m g. all_move (seen old) (seen new) (region_of (journal_of old)).at (region_of (journal_of old)).length tables others (in_front (region_of (journal_of old)).at _ tables (has.front m)) (has.stand m (going g)))
       has
 
   pub kept : PagesAreKept modelled life
   kept = record {
-    recorded = λ old said new tables is has. written old new tables is.others is.region (λ going. (is.was_going, is.cache)) has;
+    recorded = λ old said new tables is has. written old new tables is.others is.region (λ going. is.was_going) has;
     failed = λ old said error new tables is has. by_error old said error new tables is has;
-    all_recorded = λ old records new tables is has. written old new tables is.others is.region (λ going. (is.was_going, is.cache)) has;
+    all_recorded = λ old records new tables is has. written old new tables is.others is.region (λ going. is.was_going) has;
     all_left_open = λ old records new tables is has. left_open old new tables is.others is.journal is.failed has;
     changed = λ r old new stay has. record {
       inside = stay.inside (length (seen r)) has.inside;
       front = λ m. stay.inside (region_of (journal_of r)).at (has.front m);
       behind = λ m. stay.apart 0 _ (has.behind m);
-      read = has.read;
       stand = λ m going. stay.stand (seen r) (has.stand m going);
     };
   }

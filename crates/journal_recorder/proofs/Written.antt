@@ -6,7 +6,6 @@ use Rattle.half_store.specs.Active.{active_of}
 use Rattle.half_store.specs.Layout.{half_len, offset_of, other_than}
 use Rattle.half_store.specs.Opened.{store_of}
 use Rattle.half_store.specs.declared.active.Active.{Active}
-use Rattle.row_pages.specs.Keeping.{AreRead}
 use Rattle.tables.specs.Tables.{Store as Rows}
 use Rattle.unit_journal.specs.Journal.{region_of}
 use Rattle.unit_journal.specs.Record.{Entry}
@@ -16,7 +15,7 @@ use Rattle.paged_tables.specs.TablesByName.{AreOnPages, LieInside, LieOutside, T
 use Rattle.paged_checkpoints.specs.Apart.{StandApart}
 use Rattle.journal_recorder.specs.Checkpointing.{HasStore, RestsWith}
 use Rattle.journal_recorder.specs.Reading.{HasPages}
-use Rattle.journal_recorder.specs.Recording.{cache_of, disk_of, has_failed, journal_of}
+use Rattle.journal_recorder.specs.Recording.{disk_of, has_failed, journal_of}
 use Rattle.journal_recorder.specs.declared.recorder.DiskRecorder.{DiskRecorder}
 use Rattle.journal_recorder.proofs.Pages.{never, placed}
 use Rattle.journal_recorder.proofs.Standing.{all_move, lie_wider}
@@ -28,9 +27,9 @@ module _ {D : Type 0} (modelled : Bool) (life : D → Life) (old new : DiskRecor
 
   -- the device failed
   pub failed : journal_of new ≡ journal_of old → has_failed new ≡ true → HasPages modelled life new tables
-  failed same closed = placed modelled life old new tables size (ap region_of same) (λ m going. absurd (never closed going)) (λ m going. absurd (never closed going)) has
+  failed same closed = placed modelled life old new tables size (ap region_of same) (λ m going. absurd (never closed going)) has
 
-  module _ (going : has_failed old ≡ false) (active : Active) (is : IsTrue modelled → active_of (seen old) ≡ Ok (store_of active)) (read : (file : List ℕ) → AreRead (cache_of new) file) (there : HasStore modelled life old) where
+  module _ (going : has_failed old ≡ false) (active : Active) (is : IsTrue modelled → active_of (seen old) ≡ Ok (store_of active)) (there : HasStore modelled life old) where
     with_active : IsTrue modelled → RestsWith modelled life old (store_of active)
     with_active m = of_active modelled life old active is (there m).0 (there m).1
 
@@ -39,7 +38,7 @@ module _ {D : Type 0} (modelled : Bool) (life : D → Life) (old new : DiskRecor
 
     -- the old half goes on
     pub refused : journal_of new ≡ journal_of old → (Rests modelled (life (disk_of old)) (store_of active) → GoesOn (life (disk_of new)) (seen old) (store_of active)) → HasPages modelled life new tables
-    refused same goes_on = placed modelled life old new tables size (ap region_of same) (λ m still. read (seen new))
+    refused same goes_on = placed modelled life old new tables size (ap region_of same)
         (λ m still. all_move (seen old) (seen new) (offset_of (half_len (length (seen old))) (other_than active.half)) (half_len (length (seen old))) tables (goes_on (with_active m).rests).is.others (apart m).apart (has.stand m going))
         has
 
@@ -53,7 +52,6 @@ module _ {D : Type 0} (modelled : Bool) (life : D → Life) (old new : DiskRecor
       inside = lie_wider s.active.region.at (length (seen new)) laid front inside;
       front = λ m. subst (λ (n : ℕ). LieInside n laid) (sym (ap (λ j. (region_of j).at) journal ∙ (anew m).begins)) inside;
       behind = λ m. outside 0 (end_of (region_of (journal_of new)) - half_len (length (seen new))) (inr (behind m));
-      read = λ m still. read (seen new);
       stand = λ m still. stand (with_active m).rests (apart m);
     }
       where

@@ -3,7 +3,6 @@ use Rattle.std.specs.Prelude.{◌≡◌, ◌⊎◌, ◌+◌, ◌-◌, Bool, true
 use Rattle.drda_disk.specs.Disk.{Life, Stays}
 use Rattle.drda_disk.specs.Region.{end_of}
 use Rattle.half_store.specs.Layout.{half_len}
-use Rattle.row_pages.specs.Keeping.{AreRead}
 use Rattle.row_pages.specs.declared.kept.PageFault.{PageFault}
 use Rattle.row_pages.specs.declared.kept.PageFault.TheVariants as fault
 use Rattle.ahead_view.specs.declared.source.ReadError.{ReadError}
@@ -12,7 +11,7 @@ use Rattle.paged_tables.specs.TablesByName.{AreOnPages, LieInside, LieOutside, P
 use Rattle.unit_journal.specs.Journal.{region_of}
 use Rattle.unit_records.specs.Records.{UnitRecord}
 use Rattle.unit_records.specs.declared.record_error.RecordError.{RecordError}
-use Rattle.journal_recorder.specs.Recording.{AreLeftOpen, Fails, Records, RecordsAll, cache_of, disk_of, has_failed, journal_of, layout_of, made_of}
+use Rattle.journal_recorder.specs.Recording.{AreLeftOpen, Fails, Records, RecordsAll, disk_of, has_failed, journal_of, layout_of, made_of}
 use Rattle.journal_recorder.specs.declared.recorder.DiskRecorder.{DiskRecorder}
 
 -- why nothing was read, and what becomes of the recorder
@@ -23,13 +22,11 @@ Remembers old fault.Damaged error new = (error ≡ read.DeviceFailed) × (new �
 
 module _ {D : Type 0} (modelled : Bool) (life : D → Life) where
   -- The pages of tables can be read: they lie inside of the disk. Of a disk that gives back what was written they lie in
-  -- the journal's half in front of it, and until the device fails they stand there with their rows, and so do the pages
-  -- that are kept.
+  -- the journal's half in front of it, and until the device fails they stand there with their rows.
   pub record HasPages (r : DiskRecorder D) (tables : Tables) : Type 0 where
     pub inside : LieInside (length (life (disk_of r)).seen) tables
     pub front : IsTrue modelled → LieInside (region_of (journal_of r)).at tables
     pub behind : IsTrue modelled → LieOutside 0 (end_of (region_of (journal_of r)) - half_len (length (life (disk_of r)).seen)) tables
-    pub read : IsTrue modelled → has_failed r ≡ false → AreRead (cache_of r) (life (disk_of r)).seen
     pub stand : IsTrue modelled → has_failed r ≡ false → AreOnPages (life (disk_of r)).seen tables
 
   -- a read was answered, or memory was refused in it: nothing is written, and no call failed

@@ -4,7 +4,6 @@ use Rattle.std.specs.List.{AllByRecursion}
 use Rattle.drda_disk.specs.Disk.{LeavesOnly, Life}
 use Rattle.drda_disk.specs.Region.{SameOutside, end_of}
 use Rattle.half_store.specs.declared.header.Layout.{Layout}
-use Rattle.row_pages.specs.Keeping.{AreRead, Kept}
 use Rattle.unit_journal.specs.declared.journal.Journal.{Journal}
 use Rattle.unit_journal.specs.Journal.{IsSettled, held_of, region_of, room_of}
 use Rattle.unit_journal.specs.Record.{Entry}
@@ -20,11 +19,7 @@ abbrev pub journal_of : {D : Type 0} → DiskRecorder D → Journal
 journal_of r = r.journal
 
 abbrev pub disk_of : {D : Type 0} → DiskRecorder D → D
-disk_of r = r.disk
-
--- the pages that it keeps
-abbrev pub cache_of : {D : Type 0} → DiskRecorder D → Kept
-cache_of r = r.cache
+disk_of r = r.pager
 
 -- its journal's layout, by which bytes are held back and released
 abbrev pub layout_of : {D : Type 0} → DiskRecorder D → Layout
@@ -53,7 +48,6 @@ module _ {D : Type 0} (modelled : Bool) (life : D → Life) where
   LeavesOneMore old said new = (es : List Entry) → IsSettled modelled (life_of old) (journal_of old) es
       → LeavesOnly (life_of old) (life_of new) (IsBeforeOrAfter (region_of (journal_of old)) (life_of old).seen es (entry_of said))
 
-  -- The pages that are kept then are what the disk reads, if those before were.
   pub record Records (old : DiskRecorder D) (said : UnitRecord) (new : DiskRecorder D) : Type 0 where
     pub good : IsGood said
     pub settled : (es : List Entry) → IsSettled modelled (life_of old) (journal_of old) es → IsSettled modelled (life_of new) (journal_of new) (es ++ entry_of said ∷ [])
@@ -64,7 +58,6 @@ module _ {D : Type 0} (modelled : Bool) (life : D → Life) where
     pub room : room_of (journal_of new) + (taken said + held (layout_of old) said) ≡ room_of (journal_of old) + released (layout_of old) said
     pub held : held_of (journal_of new) + released (layout_of old) said ≡ held_of (journal_of old) + held (layout_of old) said
     pub faults : (life_of new).faults ≡ (life_of old).faults
-    pub cache : AreRead (cache_of old) (life_of old).seen → AreRead (cache_of new) (life_of new).seen
     pub was_going : has_failed old ≡ false
     pub going : has_failed new ≡ false
     pub made : made_of new ≡ with_done (made_of old) ((entry_of said ∷ []) ∷ [])
@@ -115,7 +108,6 @@ module _ {D : Type 0} (modelled : Bool) (life : D → Life) where
     pub room : room_of (journal_of new) + (taken_by records + held_by (layout_of old) records) ≡ room_of (journal_of old) + released_by (layout_of old) records
     pub held : held_of (journal_of new) + released_by (layout_of old) records ≡ held_of (journal_of old) + held_by (layout_of old) records
     pub faults : (life_of new).faults ≡ (life_of old).faults
-    pub cache : AreRead (cache_of old) (life_of old).seen → AreRead (cache_of new) (life_of new).seen
     pub was_going : has_failed old ≡ false
     pub going : has_failed new ≡ false
     pub made : made_of new ≡ with_done (made_of old) (map entry_of records ∷ [])

@@ -1,10 +1,11 @@
 //! Writing checkpoints.
 
-ghost use Rattle.std.specs.Prelude.{◌≡◌, ◌≢◌, ◌≤◌, IfErr, IfOk, IsTrue, Ok, false, length, map};
+ghost use Rattle.std.specs.Prelude.{◌≡◌, ◌≢◌, ◌≤◌, IfErr, IfOk, IsTrue, Ok, OnOk, false, length, map};
+ghost use Rattle.drda_disk.specs.Disk.{Stays};
 ghost use Rattle.drda_disk.specs.Region.{end_of};
 ghost use Rattle.half_store.specs.Active.{active_of};
 ghost use Rattle.half_store.specs.Layout.{is_store_size};
-ghost use Rattle.half_store.specs.Opened.{store_of};
+ghost use Rattle.half_store.specs.Opened.{CountsOpen, Tells, store_of};
 ghost use Rattle.paged_tables.specs.PagedTables.{store_in};
 ghost use Rattle.tables.specs.ChangeView.{change_of};
 ghost use Rattle.unit_journal.specs.Journal.{region_of};
@@ -22,6 +23,7 @@ use drda_disk::Disk;
 use half_store::{Active, Layout, OpenError};
 use paged_checkpoints::write_checkpoint;
 use paged_tables::PagedTables;
+use row_pages::Pager;
 use std::alloc::{AllocError, Global};
 use tables::Change;
 use thiserror::Error;
@@ -112,6 +114,18 @@ fn record_of(alloc: Global, laid: &LaidRecord) -> Result<Record, CheckpointError
     }
 }
 
+// The active half, read anew. No page is kept from then on.
+fn find_active<D: Disk>(alloc: Global, pager: &mut Pager<D>) -> Result<Active, OpenError>
+    ensures active { IsTrue D.is_modelled → Tells (active_of (D.life pager.old).seen) result }
+    ensures size { OnOk result (IsTrue (is_store_size (length (D.life pager.new).seen))) }
+    ensures stays { Stays (D.life pager.old) (D.life pager.new) }
+    ensures cause { CountsOpen result (D.life pager.old).faults (D.life pager.new).faults }
+{
+    let found = half_store::open(alloc, pager);
+    pager.forget();
+    found
+}
+
 impl<D: Disk> DiskRecorder<D> {
     ghost use Rattle.journal_recorder.specs.Checkpointing.{Checkpoints, HasStore};
     ghost use Rattle.journal_recorder.specs.Reading.{HasPages};
@@ -142,7 +156,7 @@ impl<D: Disk> DiskRecorder<D> {
         ensures tables { store_in tables.new ≡ store_in tables.old }
         ensures pages { HasStore D.is_modelled D.life self.old → HasPages D.is_modelled D.life self.new tables.new.tables }
     {
-        let active = match half_store::open(self.alloc, &mut self.disk) {
+        let active = match find_active(self.alloc, &mut self.pager) {
             Ok(active) => active,
             Err(OpenError::DeviceFailed) => {
                 self.is_failed = true;
@@ -171,15 +185,7 @@ impl<D: Disk> DiskRecorder<D> {
         ensures tables { store_in tables.new ≡ store_in tables.old }
         ensures pages { HasStore D.is_modelled D.life self.old → HasPages D.is_modelled D.life self.new tables.new.tables }
     {
-        match write_checkpoint(
-            self.alloc,
-            &mut self.cache,
-            &mut self.disk,
-            active,
-            tables,
-            records,
-            held,
-        ) {
+        match write_checkpoint(self.alloc, &mut self.pager, active, tables, records, held) {
             Ok(relaid) => {
                 self.journal = relaid.switched.journal;
                 self.layout = Layout::Two;

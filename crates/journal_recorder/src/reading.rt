@@ -39,7 +39,7 @@ impl<D: Disk> Source for DiskRecorder<D> {
         if self.is_failed {
             return Err(ReadError::DeviceFailed);
         }
-        match tables.row(alloc, &mut self.cache, &mut self.disk, table, key) {
+        match tables.row(alloc, &mut self.pager, table, key) {
             Ok(row) => Ok(row),
             Err(fault) => Err(self.not_read(fault)),
         }
@@ -54,7 +54,7 @@ impl<D: Disk> Source for DiskRecorder<D> {
         if self.is_failed {
             return Err(ReadError::DeviceFailed);
         }
-        match tables.rows(alloc, &mut self.cache, &mut self.disk, table) {
+        match tables.rows(alloc, &mut self.pager, table) {
             Ok(rows) => Ok(rows),
             Err(fault) => Err(self.not_read(fault)),
         }

@@ -1,8 +1,7 @@
 //! Who records in a journal.
 
-ghost use Rattle.std.specs.Prelude.{◌≡◌, ◌+◌, ◌<◌, ◌≤◌, ◌^◌, false, ℕ, List, IfErr, OnOk, length, take};
+ghost use Rattle.std.specs.Prelude.{◌≡◌, ◌+◌, ◌<◌, ◌≤◌, ◌^◌, false, List, IfErr, OnOk, length};
 ghost use Rattle.drda_disk.specs.Region.{end_of};
-ghost use Rattle.row_pages.specs.Keeping.{AreRead};
 ghost use Rattle.unit_journal.specs.Journal.{held_of, region_of, room_of};
 ghost use Rattle.unit_journal.specs.LaidRecord.{entry_in};
 ghost use Rattle.unit_journal.specs.Record.{laid as spelled};
@@ -15,7 +14,7 @@ use crate::laying_all::{LaidTogether, lay_all};
 use crate::made::MadeRecords;
 use drda_disk::{Disk, Region};
 use half_store::Layout;
-use row_pages::PageCache;
+use row_pages::Pager;
 use std::alloc::Global;
 use unit_journal::{AppendError, Journal, LaidRecord};
 use unit_records::{GroupError, RecordContents, RecordError, Recorder};
@@ -27,10 +26,9 @@ use unit_records::{GroupError, RecordContents, RecordError, Recorder};
 /// until the next checkpoint. Once the device has failed nothing is recorded or read any more,
 /// and no device call is made.
 #[derive(Drop)]
-pub struct DiskRecorder<D> {
+pub struct DiskRecorder<D: Disk> {
     pub(crate) alloc: Global,
-    pub(crate) disk: D,
-    pub(crate) cache: PageCache,
+    pub(crate) pager: Pager<D>,
     pub(crate) journal: Journal,
     pub(crate) layout: Layout,
     pub(crate) is_failed: bool,
@@ -39,19 +37,12 @@ pub struct DiskRecorder<D> {
 
 impl<D: Disk> DiskRecorder<D> {
     ghost use Rattle.journal_recorder.specs.Laying.{AreLaid, Says};
-    ghost use Rattle.journal_recorder.specs.Recording.{AreLeftOpen, Fails, Records, RecordsAll, cache_of, disk_of, has_failed, journal_of, layout_of, made_of};
+    ghost use Rattle.journal_recorder.specs.Recording.{AreLeftOpen, Fails, Records, RecordsAll, disk_of, has_failed, journal_of, layout_of, made_of};
 
-    /// Records in this journal of this disk, whose device has not failed, and reads through this cache,
-    /// which keeps `CACHED_PAGES` at most. The journal has this layout.
-    pub fn new(
-        alloc: Global,
-        disk: D,
-        cache: PageCache,
-        journal: Journal,
-        layout: Layout,
-    ) -> DiskRecorder<D>
-        ensures disk { disk_of result ≡ disk }
-        ensures cache { cache_of result ≡ cache }
+    /// Records in this journal of this disk, whose device has not failed, and which is lent with `CACHED_PAGES`
+    /// kept pages at most. The journal has this layout.
+    pub fn new(alloc: Global, pager: Pager<D>, journal: Journal, layout: Layout) -> DiskRecorder<D>
+        ensures disk { disk_of result ≡ pager }
         ensures journal { journal_of result ≡ journal }
         ensures layout { layout_of result ≡ layout }
         ensures going { has_failed result ≡ false }
@@ -59,8 +50,7 @@ impl<D: Disk> DiskRecorder<D> {
     {
         DiskRecorder {
             alloc,
-            disk,
-            cache,
+            pager,
             journal,
             layout,
             is_failed: false,
@@ -72,7 +62,7 @@ impl<D: Disk> DiskRecorder<D> {
     pub fn disk(&self) -> &D
         ensures { result.now ≡ disk_of self.now }
     {
-        &self.disk
+        self.pager.disk()
     }
 
     /// Whether the device has failed.
@@ -114,7 +104,7 @@ impl<D: Disk> DiskRecorder<D> {
     pub fn into_disk(self) -> D
         ensures { result ≡ disk_of self }
     {
-        self.disk
+        self.pager.into_disk()
     }
 
     // The room, which is below 2^32 as a journal's region is at most that long.
@@ -134,9 +124,8 @@ impl<D: Disk> DiskRecorder<D> {
         ensures ok { (said : UnitRecord) → Says (layout_of self.old) said (entry_in laid.now) hold release → OnOk result (Records D.is_modelled D.life self.old said self.new) }
         ensures err { (said : UnitRecord) → Says (layout_of self.old) said (entry_in laid.now) hold release → IfErr result (λ error. Fails D.is_modelled D.life self.old said error self.new) }
     {
-        match self.journal.append(&mut self.disk, laid, hold, release) {
+        match self.journal.append(&mut self.pager, laid, hold, release) {
             Ok(()) => {
-                keep_pages(&mut self.cache, &self.journal);
                 self.made.note(laid.kind(), laid.body());
                 Ok(())
             }
@@ -163,10 +152,9 @@ impl<D: Disk> DiskRecorder<D> {
     {
         match self
             .journal
-            .append_group(&mut self.disk, &laid.group, laid.hold, laid.release)
+            .append_group(&mut self.pager, &laid.group, laid.hold, laid.release)
         {
             Ok(()) => {
-                keep_pages(&mut self.cache, &self.journal);
                 self.made.note_all(&laid.group);
                 Ok(())
             }
@@ -178,13 +166,6 @@ impl<D: Disk> DiskRecorder<D> {
             }
         }
     }
-}
-
-// Keeps the pages in front of a journal, in which something was recorded.
-fn keep_pages(cache: &mut PageCache, journal: &Journal)
-    ensures { (old new : List ℕ) → take (region_of journal.now).at new ≡ take (region_of journal.now).at old → AreRead cache.old old → AreRead cache.new new }
-{
-    cache.keep_front(journal.region().at);
 }
 
 impl<D: Disk> Recorder for DiskRecorder<D> {

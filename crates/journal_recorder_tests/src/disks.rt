@@ -8,7 +8,7 @@ use crate::untold::Untold;
 use drda_disk::{Disk, FuseDisk, MemDisk, Region};
 use half_store::{Layout, format, open};
 use journal_recorder::{CACHED_PAGES, DiskRecorder};
-use row_pages::PageCache;
+use row_pages::{PageCache, Pager};
 use std::alloc::Global;
 use unit_journal::{Journal, Record};
 
@@ -55,10 +55,8 @@ fn keeping(
 ) -> Option<Keeping> {
     let disk = Untold::new(FuseDisk::new(disk, calls, false));
     let cache = PageCache::new(alloc, CACHED_PAGES).ok()?;
-    Some(Keeper::new(
-        alloc,
-        DiskRecorder::new(alloc, disk, cache, journal, layout),
-    ))
+    let pager = Pager::over(disk, cache);
+    Some(Keeper::new(alloc, DiskRecorder::new(alloc, pager, journal, layout)))
 }
 
 /// A recorder of a layout with an empty journal of so many bytes at 3 of a disk of 192, over a fuse of so many calls.

@@ -1,9 +1,9 @@
 //! A recorder with the tables of its store. What may not be asked of it shows as want of memory, or as refused.
 
-ghost use Rattle.std.specs.Prelude.{◌≡◌, ◌≤◌, [], IsTrue, length, false};
+ghost use Rattle.std.specs.Prelude.{◌≡◌, ◌≤◌, IsTrue, length, false};
 ghost use Rattle.drda_disk.specs.Region.{end_of};
 ghost use Rattle.unit_journal.specs.Journal.{held_of, region_of};
-ghost use Rattle.journal_recorder.specs.Recording.{cache_of, disk_of, has_failed, journal_of};
+ghost use Rattle.journal_recorder.specs.Recording.{disk_of, has_failed, journal_of};
 
 use crate::records::released_by;
 use ahead_view::{ReadError, Source};
@@ -46,10 +46,8 @@ fn may_record<D: Disk>(recorder: &DiskRecorder<D>, release: usize) -> bool
 }
 
 impl<D: Disk> Keeper<D> {
-    /// A recorder that keeps no page, and no tables.
-    pub fn new(alloc: Global, recorder: DiskRecorder<D>) -> Keeper<D>
-        requires { cache_of recorder ≡ [] }
-    {
+    /// A recorder, and no tables.
+    pub fn new(alloc: Global, recorder: DiskRecorder<D>) -> Keeper<D> {
         Keeper {
             alloc,
             recorder,

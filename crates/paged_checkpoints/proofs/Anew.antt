@@ -7,7 +7,6 @@ use Rattle.row_values.specs.Schema.{Schema, is_schema}
 use Rattle.row_values.specs.Row.{is_row}
 use Rattle.key_map.specs.Merging.{Rows}
 use Rattle.key_map.specs.RowForm.{RowsHaveTheirForms, row_form}
-use Rattle.row_pages.specs.Keeping.{Kept}
 use Rattle.row_pages.specs.Laying.{IsShort, laid}
 use Rattle.table_map.specs.Keyed.{first_keys, keyed_rows}
 use Rattle.table_map.specs.Stored.{Places, IsStored as StandAt}
@@ -45,7 +44,7 @@ is_under law e lent is sound =
     sym (forms_back law e.1.schema (rows_in e.1) (subst (λ (s : Schema). is_schema s ≡ true) is.schema sound) is.stored.forms)
     ∙ ap (λ (rows : List (List ℕ)). keyed_rows (row_form e.1.schema) rows) (standing.bare e.1.schema (rows_in e.1))
 
-module _ (law : RowsHaveTheirForms) (modelled : Bool) (file : List ℕ) (kept : Kept) (w : ImageWriter) (e : List ℕ × Stored) (lent : TableRef) (is : IsLent e lent) (sound : is_schema lent.schema.now ≡ true) (readable : IsReadable modelled file kept w e.1) where
+module _ (law : RowsHaveTheirForms) (modelled : Bool) (file : List ℕ) (w : ImageWriter) (e : List ℕ × Stored) (lent : TableRef) (is : IsLent e lent) (sound : is_schema lent.schema.now ≡ true) (readable : IsReadable modelled file w e.1) where
   abbrev key_of : List ℕ → List ℕ
   key_of = row_form lent.schema.now
 

@@ -10,7 +10,6 @@ use Rattle.half_store.specs.Opened.{store_of as opened_as}
 use Rattle.half_store.specs.Writing.{IsKept, IsWriting, half_bytes_of, half_of}
 use Rattle.half_store.specs.declared.active.Active.{Active}
 use Rattle.half_store.specs.declared.image.ImageWriter.{ImageWriter}
-use Rattle.row_pages.specs.Keeping.{AreRead, Kept}
 use Rattle.unit_journal.specs.Record.{Entry}
 use Rattle.tables.specs.Tables.{Store}
 use Rattle.table_map.specs.Stored.{Places}
@@ -30,20 +29,20 @@ use Rattle.paged_checkpoints.proofs.Framed.{shown_created}
 pub lent_shown : (tables lent : Tables) → lent ≡ created_of tables → all_shown lent ≡ store_of tables
 lent_shown tables lent is = ap all_shown is ∙ sym (shown_created tables)
 
--- No page is kept, those of the tables that are created are lent, and the image is of the half that is not active.
-module _ (modelled : Bool) (first second : Life) (a : Active) (kept : Kept) (w : ImageWriter) (tables lent : Tables) (size : IsTrue (is_store_size (length first.seen)))
+-- The pages of the tables that are created are lent, and the image is of the half that is not active.
+module _ (modelled : Bool) (first second : Life) (a : Active) (w : ImageWriter) (tables lent : Tables) (size : IsTrue (is_store_size (length first.seen)))
     (torn : Torn (other_half (length first.seen) (opened_as a)) 1 first.seen second.seen) (half : (half_of w ≡ other_than a.half) × (half_bytes_of w ≡ half_len (length first.seen)))
-    (none : (file : List ℕ) → AreRead kept file) (is : lent ≡ created_of tables) where
+    (is : lent ≡ created_of tables) where
   abbrev store : Opened
   store = opened_as a
 
   some : 1 ≤ half_len (length first.seen)
   some = some_half (length first.seen) size
 
-  pub readable : StandApart modelled first.seen store tables → AreReadable modelled second.seen kept w lent
-  readable so = begun_readable modelled first.seen second.seen store kept w tables lent is half.0 half.1 some torn (none second.seen) so
+  pub readable : StandApart modelled first.seen store tables → AreReadable modelled second.seen w lent
+  readable so = begun_readable modelled first.seen second.seen store w tables lent is half.0 half.1 some torn so
 
-  pub room_told : {T : Type 0} (result : Result T ImageError) (es : List Entry) (held : ℕ) → (AreReadable modelled second.seen kept w lent → TellsRoom result (need_of (all_shown lent) es held) (half_bytes_of w)) → StandApart modelled first.seen store tables
+  pub room_told : {T : Type 0} (result : Result T ImageError) (es : List Entry) (held : ℕ) → (AreReadable modelled second.seen w lent → TellsRoom result (need_of (all_shown lent) es held) (half_bytes_of w)) → StandApart modelled first.seen store tables
       → TellsRoom result (need_of (store_of tables) es held) (half_len (length first.seen))
   room_told result es held told so =
       subst (λ (s : Store). TellsRoom result (need_of s es held) (half_len (length first.seen))) (lent_shown tables lent is)
@@ -61,17 +60,17 @@ module _ (modelled : Bool) (first second : Life) (a : Active) (kept : Kept) (w :
     }
 
     module _ (so : StandApart modelled first.seen store tables) where
-      pub stand_then : (file : List ℕ) (places : List Places) → (AreReadable modelled second.seen kept w lent → (base : List ℕ) → IsWriting modelled second base store w → AreLaid (IsOnPages file) places lent) → AreLaid (IsOnPages file) places (created_of tables)
+      pub stand_then : (file : List ℕ) (places : List Places) → (AreReadable modelled second.seen w lent → (base : List ℕ) → IsWriting modelled second base store w → AreLaid (IsOnPages file) places lent) → AreLaid (IsOnPages file) places (created_of tables)
       stand_then file places laid = subst (λ (l : Tables). AreLaid (IsOnPages file) places l) is (laid (readable so) second.seen writing)
 
       module _ (third : Life) (es : List Entry) (held : ℕ) where
-        pub anew_then : (s : Switched) → (AreReadable modelled second.seen kept w lent → (base : List ℕ) → IsWriting modelled second base store w → IsAnew modelled third base store (all_shown lent) es held s) → IsAnew modelled third first.seen store (store_of tables) es held s
+        pub anew_then : (s : Switched) → (AreReadable modelled second.seen w lent → (base : List ℕ) → IsWriting modelled second base store w → IsAnew modelled third base store (all_shown lent) es held s) → IsAnew modelled third first.seen store (store_of tables) es held s
         anew_then s done =
             subst (λ (l : Store). IsAnew modelled third first.seen store l es held s) (lent_shown tables lent is)
             (anew_before first.seen second.seen store some torn modelled third (all_shown lent) es held s (done (readable so) second.seen writing))
 
         module _ (began : IsTrue modelled → Only first → active_of first.seen ≡ Ok store → LeavesOnly first second (IsKept first.seen store (other_half (length first.seen) store) 1))
-            (wrote : AreReadable modelled second.seen kept w lent → (base : List ℕ) → IsWriting modelled second base store w → LeavesOnly second third (Moment base store (all_shown lent) es held)) where
+            (wrote : AreReadable modelled second.seen w lent → (base : List ℕ) → IsWriting modelled second base store w → LeavesOnly second third (Moment base store (all_shown lent) es held)) where
           pub leaves : LeavesOnly first third (Moment first.seen store (store_of tables) es held)
           leaves =
               subst (λ (l : Store). LeavesOnly first third (Moment first.seen store l es held)) (lent_shown tables lent is)

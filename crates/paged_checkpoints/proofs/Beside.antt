@@ -1,9 +1,7 @@
 -- Tables that stay where they are while another half is written.
 use Rattle.std.proofs.Common.{◌≡◌, ◌⊎◌, inl, inr, ⊎_elim, ℕ, ◌+◌, ◌-◌, ◌*◌, ◌≤◌, Bool, List, [], ◌∷◌, length, sym, ap, subst, ◌∙◌, arith}
-use Rattle.std.specs.Prelude.{IsTrue}
 use Rattle.drda_disk.specs.Disk.{Torn}
 use Rattle.key_map.specs.RowForm.{row_form}
-use Rattle.row_pages.specs.Keeping.{AreRead, Kept}
 use Rattle.half_store.specs.Active.{Store as Opened}
 use Rattle.half_store.specs.Layout.{half_len, offset_of, other_than}
 use Rattle.half_store.specs.Writing.{from_of, half_bytes_of, half_of, next_of}
@@ -53,18 +51,17 @@ all_move old new from n (e ∷ es) torn away all = (one_moves old new from n e.1
 behind_pages : (w : ImageWriter) → next_of w + (end_of_half w - next_of w) ≡ end_of_half w
 behind_pages w = omega (arith, w.fits)
 
-pub one_readable : (modelled : Bool) (file : List ℕ) (kept : Kept) (w : ImageWriter) (left : Tables) (e : List ℕ × Stored) (rest : Tables) → left ≡ e ∷ rest → AreReadable modelled file kept w left → IsReadable modelled file kept w e.1
-one_readable modelled file kept w left e rest is all =
-    let here : AreReadable modelled file kept w (e ∷ rest) = subst (λ (l : Tables). AreReadable modelled file kept w l) is all in
-    record { modelled_disk = here.modelled_disk; read = here.read; stand = here.stand.0; apart = here.apart.0 }
+pub one_readable : (modelled : Bool) (file : List ℕ) (w : ImageWriter) (left : Tables) (e : List ℕ × Stored) (rest : Tables) → left ≡ e ∷ rest → AreReadable modelled file w left → IsReadable modelled file w e.1
+one_readable modelled file w left e rest is all =
+    let here : AreReadable modelled file w (e ∷ rest) = subst (λ (l : Tables). AreReadable modelled file w l) is all in
+    record { modelled_disk = here.modelled_disk; stand = here.stand.0; apart = here.apart.0 }
 
-pub rest_readable : (modelled : Bool) (old new : List ℕ) (kept then : Kept) (w after : ImageWriter) (left : Tables) (e : List ℕ × Stored) (rest : Tables) → left ≡ e ∷ rest
-    → from_of after ≡ from_of w → half_bytes_of after ≡ half_bytes_of w → Torn (next_of w) (end_of_half w - next_of w) old new → (IsTrue modelled → AreRead kept old → AreRead then new) → AreReadable modelled old kept w left → AreReadable modelled new then after rest
-rest_readable modelled old new kept then w after left e rest is from bytes torn reads all =
-    let here : AreReadable modelled old kept w (e ∷ rest) = subst (λ (l : Tables). AreReadable modelled old kept w l) is all in
+pub rest_readable : (modelled : Bool) (old new : List ℕ) (w after : ImageWriter) (left : Tables) (e : List ℕ × Stored) (rest : Tables) → left ≡ e ∷ rest
+    → from_of after ≡ from_of w → half_bytes_of after ≡ half_bytes_of w → Torn (next_of w) (end_of_half w - next_of w) old new → AreReadable modelled old w left → AreReadable modelled new after rest
+rest_readable modelled old new w after left e rest is from bytes torn all =
+    let here : AreReadable modelled old w (e ∷ rest) = subst (λ (l : Tables). AreReadable modelled old w l) is all in
     record {
       modelled_disk = here.modelled_disk;
-      read = reads here.modelled_disk here.read;
       stand = all_move old new (next_of w) (end_of_half w - next_of w) rest torn (still_outside (from_of w) (end_of_half w) (next_of w) (next_of w + (end_of_half w - next_of w)) rest (omega arith) (omega (arith, behind_pages w)) here.apart.1) here.stand.1;
       apart = still_outside (from_of w) (end_of_half w) (from_of after) (end_of_half after) rest (omega (arith, from)) (omega (arith, from, bytes)) here.apart.1;
     }
@@ -74,17 +71,16 @@ rest_inside size left e rest is all = subst (λ (l : Tables). LieInside size l) 
 
 -- ---- from the beginning of an image on
 
-pub begun_readable : (modelled : Bool) (old mid : List ℕ) (store : Opened) (kept : Kept) (w : ImageWriter) (tables lent : Tables) → lent ≡ created_of tables → half_of w ≡ other_than store.half → half_bytes_of w ≡ half_len (length old) → 1 ≤ half_len (length old)
-    → Torn (other_half (length old) store) 1 old mid → AreRead kept mid → StandApart modelled old store tables → AreReadable modelled mid kept w lent
-begun_readable modelled old mid store kept w tables lent is half bytes some torn read so =
+pub begun_readable : (modelled : Bool) (old mid : List ℕ) (store : Opened) (w : ImageWriter) (tables lent : Tables) → lent ≡ created_of tables → half_of w ≡ other_than store.half → half_bytes_of w ≡ half_len (length old) → 1 ≤ half_len (length old)
+    → Torn (other_half (length old) store) 1 old mid → StandApart modelled old store tables → AreReadable modelled mid w lent
+begun_readable modelled old mid store w tables lent is half bytes some torn so =
     let from : ℕ = other_half (length old) store in
     let end : ℕ = from + half_len (length old) in
     let here : from_of w ≡ from = ap (λ (n : ℕ). offset_of n (half_of w)) bytes ∙ ap (λ (h : Half). offset_of (half_len (length old)) h) half in
     let stand : AreOnPages old (created_of tables) = all_kept (IsOnPages old) tables so.stand in
     let apart : LieOutside from end (created_of tables) = all_kept (LiesOutside from end) tables so.apart in
-    subst (λ (l : Tables). AreReadable modelled mid kept w l) (sym is) (record {
+    subst (λ (l : Tables). AreReadable modelled mid w l) (sym is) (record {
       modelled_disk = so.modelled_disk;
-      read = read;
       stand = all_move old mid from 1 (created_of tables) torn (still_outside from end from (from + 1) (created_of tables) (omega arith) (omega (arith, some)) apart) stand;
       apart = still_outside from end (from_of w) (end_of_half w) (created_of tables) (omega (arith, here)) (omega (arith, here, bytes)) apart;
     })

@@ -5,7 +5,6 @@ use Rattle.half_store.specs.Layout.{half_len, offset_of, other_than}
 use Rattle.half_store.specs.Writing.{from_of}
 use Rattle.half_store.specs.declared.image.ImageWriter.{ImageWriter}
 use Rattle.checkpoint_writer.specs.Adding.{end_of_half}
-use Rattle.row_pages.specs.Keeping.{AreRead, Kept}
 use Rattle.table_map.specs.Stored.{Places}
 use Rattle.paged_tables.specs.Stored.{IsOnPages, LiesOutside, Stored}
 use Rattle.paged_tables.specs.TablesByName.{AreOnPages, LieOutside, Tables}
@@ -33,17 +32,14 @@ LiesAmong half places = LiesFrom half.at (page_at half.at half.count) places
 
 -- ---- while the other half is written
 
--- a table's pages can be read with its rows: they stand in what the disk reads, and so do those that are kept, outside
--- of the half that is written
-pub record IsReadable (modelled : Bool) (file : List ℕ) (kept : Kept) (w : ImageWriter) (t : Stored) : Type 0 where
+-- a table's pages can be read with its rows: they stand in what the disk reads, outside of the half that is written
+pub record IsReadable (modelled : Bool) (file : List ℕ) (w : ImageWriter) (t : Stored) : Type 0 where
   pub modelled_disk : IsTrue modelled
-  pub read : AreRead kept file
   pub stand : IsOnPages file t
   pub apart : LiesOutside (from_of w) (end_of_half w) t
 
 -- those of all tables can
-pub record AreReadable (modelled : Bool) (file : List ℕ) (kept : Kept) (w : ImageWriter) (tables : Tables) : Type 0 where
+pub record AreReadable (modelled : Bool) (file : List ℕ) (w : ImageWriter) (tables : Tables) : Type 0 where
   pub modelled_disk : IsTrue modelled
-  pub read : AreRead kept file
   pub stand : AreOnPages file tables
   pub apart : LieOutside (from_of w) (end_of_half w) tables

@@ -2,7 +2,6 @@
 ghost use Rattle.std.specs.Prelude.{◌≡◌, ◌⊎◌, ◌+◌, ◌*◌, ◌^◌, ◌≤◌, ◌++◌, ◌∷◌, [], ℕ, List, true, IsTrue, IfOk, OnOk, length, map};
 ghost use Rattle.std.specs.List.{AllByRecursion};
 ghost use Rattle.drda_disk.specs.Disk.{Stays};
-ghost use Rattle.row_pages.specs.Keeping.{AreRead};
 ghost use Rattle.row_values.specs.Schema.{is_name};
 ghost use Rattle.tables.specs.View.{is_store};
 ghost use Rattle.store_check.specs.Checkpoint.{forms};
@@ -18,7 +17,7 @@ use checkpoint_writer::StoredTable;
 use drda_disk::Disk;
 use half_store::Active;
 use paged_tables::{PagedTables, rows_stand_at_their_forms};
-use row_pages::{PAGE_BYTES, PageCache};
+use row_pages::{PAGE_BYTES, Pager};
 use row_values::is_name;
 use std::alloc::{AllocError, Global};
 use store_check::{
@@ -87,26 +86,24 @@ fn add_tables(
 /// Of a disk that gives back what was written nothing else is damaged. Nothing is written.
 pub fn open_checkpoint<D: Disk>(
     alloc: Global,
-    cache: &mut PageCache,
-    disk: &mut D,
+    pager: &mut Pager<D>,
     active: &Active,
 ) -> Result<PagedTables, CheckError>
     requires pages { 8192 * active.now.pages ≤ active.now.region.at }
     requires small { active.now.region.at ≤ 2 ^ 40 }
-    requires inside { active.now.region.at ≤ length (D.life disk.old).seen }
-    ensures told { IsTrue D.is_modelled → AreRead cache.old (D.life disk.old).seen → OpensCheckpoint (D.life disk.old).seen (pages_of active.now) result }
+    requires inside { active.now.region.at ≤ length (D.life pager.old).seen }
+    ensures told { IsTrue D.is_modelled → OpensCheckpoint (D.life pager.old).seen (pages_of active.now) result }
     ensures store { IfOk result (λ tables. is_store (store_in tables) ≡ true) }
     // The pages of all tables end in front of the half's journal, and so inside of the disk. They are the half's, and so
     // they lie outside of what ends in front of its pages or begins behind them.
     ensures inside { IfOk result (λ tables. (size : ℕ) → active.now.region.at ≤ size → LieInside size tables.tables) }
     ensures apart { IfOk result (λ tables. (from end : ℕ) → (active.now.region.at ≤ from) ⊎ (end + 8192 * active.now.pages ≤ active.now.region.at) → LieOutside from end tables.tables) }
-    ensures kept { IsTrue D.is_modelled → AreRead cache.old (D.life disk.old).seen → AreRead cache.new (D.life disk.new).seen }
-    ensures stays { Stays (D.life disk.old) (D.life disk.new) }
-    ensures cause { CountsCheck result (D.life disk.old).faults (D.life disk.new).faults }
+    ensures stays { Stays (D.life pager.old) (D.life pager.new) }
+    ensures cause { CountsCheck result (D.life pager.old).faults (D.life pager.new).faults }
 {
     checkpoints_are_known();
     whole_is_stored();
-    let tables = check_half(alloc, &RowForms, cache, disk, active)?;
+    let tables = check_half(alloc, &RowForms, pager, active)?;
     let at = active.region.at - PAGE_BYTES * active.pages as usize;
     add_tables(alloc, at, tables)
 }

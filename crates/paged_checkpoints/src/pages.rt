@@ -18,7 +18,7 @@ use checkpoint_writer::{ImageError, write_catalogue};
 use drda_disk::Disk;
 use half_store::ImageWriter;
 use paged_tables::TablesLeft;
-use row_pages::{PageCache, one_laying};
+use row_pages::one_laying;
 use std::alloc::Global;
 use store_check::written_half_is_whole;
 use table_map::TablePages;
@@ -34,7 +34,6 @@ pub(crate) struct WrittenPages {
 /// an image that has no pages.
 pub(crate) fn write_pages<'a, D: Disk>(
     alloc: Global,
-    cache: &mut PageCache,
     disk: &mut D,
     image: &mut ImageWriter,
     tables: TablesLeft<'a>,
@@ -47,20 +46,20 @@ pub(crate) fn write_pages<'a, D: Disk>(
     ensures first { IfOk result (λ written. written.first_catalogue ≤ pages_of image.new) }
     ensures lie { IfOk result (λ written. AllByRecursion (LiesFrom (from_of image.new + 8192) (next_of image.new)) written.pages.items) }
     ensures count { IfOk result (λ written. length written.pages.items ≡ length tables.entry) }
-    ensures checkpoint { AreReadable D.is_modelled (D.life disk.old).seen cache.old image.old tables.entry
+    ensures checkpoint { AreReadable D.is_modelled (D.life disk.old).seen image.old tables.entry
         → IfOk result (λ written. HasCheckpoint (D.life disk.new).seen (pages_with image.new written.first_catalogue) (all_shown tables.entry)) }
-    ensures stand { AreReadable D.is_modelled (D.life disk.old).seen cache.old image.old tables.entry → IfOk result (λ written. AreLaid (IsOnPages (D.life disk.new).seen) written.pages.items tables.entry) }
-    ensures pages { AreReadable D.is_modelled (D.life disk.old).seen cache.old image.old tables.entry → OnOk result (pages_of image.new ≡ pages_of_tables (all_shown tables.entry) + pages_of_catalogue (all_shown tables.entry)) }
-    ensures full { AreReadable D.is_modelled (D.life disk.old).seen cache.old image.old tables.entry
+    ensures stand { AreReadable D.is_modelled (D.life disk.old).seen image.old tables.entry → IfOk result (λ written. AreLaid (IsOnPages (D.life disk.new).seen) written.pages.items tables.entry) }
+    ensures pages { AreReadable D.is_modelled (D.life disk.old).seen image.old tables.entry → OnOk result (pages_of image.new ≡ pages_of_tables (all_shown tables.entry) + pages_of_catalogue (all_shown tables.entry)) }
+    ensures full { AreReadable D.is_modelled (D.life disk.old).seen image.old tables.entry
         → TellsFull result (end_of_half image.old) (next_of image.old + 8192 * (pages_of_tables (all_shown tables.entry) + pages_of_catalogue (all_shown tables.entry))) }
-    ensures damaged { AreReadable D.is_modelled (D.life disk.old).seen cache.old image.old tables.entry → DamagedWhere ⊥ result }
+    ensures damaged { AreReadable D.is_modelled (D.life disk.old).seen image.old tables.entry → DamagedWhere ⊥ result }
     ensures cause { CountsImage result (D.life disk.old).faults (D.life disk.new).faults }
 {
     one_laying();
     written_half_is_whole();
-    let laid = write_tables(alloc, cache, disk, image, tables)?;
+    let laid = write_tables(alloc, disk, image, tables)?;
     let first_catalogue = image.pages();
-    write_catalogue(alloc, cache, disk, image, &laid.places)?;
+    write_catalogue(alloc, disk, image, &laid.places)?;
     Ok(WrittenPages {
         pages: laid.pages,
         first_catalogue,

@@ -1,7 +1,6 @@
 //! Writing tables one behind another.
-ghost use Rattle.std.specs.Prelude.{◌≡◌, ◌+◌, ◌*◌, ◌≤◌, ◌++◌, ◌∷◌, ◌==◌, [], ℕ, List, true, IsTrue, OnOk, IfOk, IfErr, length, map, if◌then◌else◌};
+ghost use Rattle.std.specs.Prelude.{◌≡◌, ◌+◌, ◌*◌, ◌≤◌, ◌++◌, ◌∷◌, ◌==◌, [], ℕ, List, true, OnOk, IfOk, IfErr, length, map, if◌then◌else◌};
 ghost use Rattle.std.specs.List.{AllByRecursion};
-ghost use Rattle.row_pages.specs.Keeping.{AreRead};
 ghost use Rattle.half_store.specs.Writing.{from_of, half_bytes_of, next_of, pages_of};
 ghost use Rattle.tables.specs.View.{is_store};
 ghost use Rattle.checkpoint_writer.specs.Adding.{AddsPages, end_of_half};
@@ -23,7 +22,6 @@ use drda_disk::Disk;
 use half_store::ImageWriter;
 use key_map::laws::rows_have_their_forms;
 use paged_tables::{TableRef, TablesLeft};
-use row_pages::PageCache;
 use std::alloc::Global;
 use table_map::{SchemaKeys, TablePages};
 
@@ -52,7 +50,6 @@ fn first_page(pages: u32, first: u32) -> u32
 /// the image has.
 fn write_table<'a, D: Disk>(
     alloc: Global,
-    cache: &mut PageCache,
     disk: &mut D,
     image: &mut ImageWriter,
     table: TableRef<'a>,
@@ -63,20 +60,19 @@ fn write_table<'a, D: Disk>(
     ensures name { IfOk result (λ laid. (place_of laid.place).name ≡ table.entry.name.now) }
     ensures under { (e : List ℕ × Stored) → IsLent e table.entry → OnOk result (IsUnder e) }
     ensures last { IfOk result (λ laid. AreLast image.old image.new laid.pages) }
-    ensures laid { (e : List ℕ × Stored) → IsLent e table.entry → IsGood (created_entry e) → IsReadable D.is_modelled (D.life disk.old).seen cache.old image.old e.1
+    ensures laid { (e : List ℕ × Stored) → IsLent e table.entry → IsGood (created_entry e) → IsReadable D.is_modelled (D.life disk.old).seen image.old e.1
         → IfOk result (λ laid. LaysTable (D.life disk.new).seen image.old image.new (created_entry e) (place_of laid.place) laid.pages) }
-    ensures full { (e : List ℕ × Stored) → IsLent e table.entry → IsReadable D.is_modelled (D.life disk.old).seen cache.old image.old e.1
+    ensures full { (e : List ℕ × Stored) → IsLent e table.entry → IsReadable D.is_modelled (D.life disk.old).seen image.old e.1
         → TellsFull result (end_of_half image.old) (next_of image.old + 8192 * pages_of_table (table_in e.1)) }
-    ensures damaged { (e : List ℕ × Stored) → IsLent e table.entry → IsGood (created_entry e) → IsReadable D.is_modelled (D.life disk.old).seen cache.old image.old e.1
+    ensures damaged { (e : List ℕ × Stored) → IsLent e table.entry → IsGood (created_entry e) → IsReadable D.is_modelled (D.life disk.old).seen image.old e.1
         → DamagedWhere ⊥ result }
-    ensures kept { IsTrue D.is_modelled → AreRead cache.old (D.life disk.old).seen → AreRead cache.new (D.life disk.new).seen }
     ensures cause { CountsImage result (D.life disk.old).faults (D.life disk.new).faults }
 {
     rows_have_their_forms();
     let TableRef { name, schema, rows } = table;
     let _columns = schema.columns();
     let first = image.pages();
-    let noted = merge_into(alloc, &SchemaKeys { schema }, rows, cache, disk, image)?;
+    let noted = merge_into(alloc, &SchemaKeys { schema }, rows, disk, image)?;
     let pages = image.pages() - first;
     let place = TablePlace {
         name,
@@ -109,7 +105,6 @@ fn push_table<'a>(tables: &mut LaidTables<'a>, table: LaidTable<'a>) -> Result<(
 /// Writes all tables that are left to lend into pages of an image that has none.
 pub(crate) fn write_tables<'a, D: Disk>(
     alloc: Global,
-    cache: &mut PageCache,
     disk: &mut D,
     image: &mut ImageWriter,
     tables: TablesLeft<'a>,
@@ -123,13 +118,13 @@ pub(crate) fn write_tables<'a, D: Disk>(
     ensures under { OnOk result (AllByRecursion IsUnder tables.entry) }
     ensures lie { IfOk result (λ laid. AllByRecursion (LiesFrom (next_of image.old) (next_of image.new)) laid.pages.items) }
     ensures count { IfOk result (λ laid. length laid.pages.items ≡ length tables.entry) }
-    ensures places { AreReadable D.is_modelled (D.life disk.old).seen cache.old image.old tables.entry → IfOk result (λ laid. map place_of laid.places.items ≡ entries_from 0 (all_shown tables.entry)) }
-    ensures pages { AreReadable D.is_modelled (D.life disk.old).seen cache.old image.old tables.entry → OnOk result (pages_of image.new ≡ pages_of_tables (all_shown tables.entry)) }
-    ensures laid { AreReadable D.is_modelled (D.life disk.old).seen cache.old image.old tables.entry → IfOk result (λ laid. laid.pages.items ≡ places_from (from_of image.old + 8192) 0 (all_shown tables.entry)) }
-    ensures written { AreReadable D.is_modelled (D.life disk.old).seen cache.old image.old tables.entry
+    ensures places { AreReadable D.is_modelled (D.life disk.old).seen image.old tables.entry → IfOk result (λ laid. map place_of laid.places.items ≡ entries_from 0 (all_shown tables.entry)) }
+    ensures pages { AreReadable D.is_modelled (D.life disk.old).seen image.old tables.entry → OnOk result (pages_of image.new ≡ pages_of_tables (all_shown tables.entry)) }
+    ensures laid { AreReadable D.is_modelled (D.life disk.old).seen image.old tables.entry → IfOk result (λ laid. laid.pages.items ≡ places_from (from_of image.old + 8192) 0 (all_shown tables.entry)) }
+    ensures written { AreReadable D.is_modelled (D.life disk.old).seen image.old tables.entry
         → OnOk result (AllByRecursion (IsWritten forms (D.life disk.new).seen (from_of image.old + 8192)) (laid_from (from_of image.old + 8192) 0 (all_shown tables.entry))) }
-    ensures full { AreReadable D.is_modelled (D.life disk.old).seen cache.old image.old tables.entry → TellsFull result (end_of_half image.old) (next_of image.old + 8192 * pages_of_tables (all_shown tables.entry)) }
-    ensures damaged { AreReadable D.is_modelled (D.life disk.old).seen cache.old image.old tables.entry → DamagedWhere ⊥ result }
+    ensures full { AreReadable D.is_modelled (D.life disk.old).seen image.old tables.entry → TellsFull result (end_of_half image.old) (next_of image.old + 8192 * pages_of_tables (all_shown tables.entry)) }
+    ensures damaged { AreReadable D.is_modelled (D.life disk.old).seen image.old tables.entry → DamagedWhere ⊥ result }
     ensures cause { CountsImage result (D.life disk.old).faults (D.life disk.new).faults }
 {
     let mut left = tables;
@@ -138,7 +133,7 @@ pub(crate) fn write_tables<'a, D: Disk>(
         pages: Vec::new(alloc),
     };
     while let Some(table) = left.next_table() {
-        let written = write_table(alloc, cache, disk, image, table)?;
+        let written = write_table(alloc, disk, image, table)?;
         push_table(&mut laid, written)?;
     }
     Ok(laid)

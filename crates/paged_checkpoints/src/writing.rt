@@ -6,7 +6,6 @@ ghost use Rattle.drda_disk.specs.Region.{end_of};
 ghost use Rattle.half_store.specs.Layout.{half_len, is_store_size};
 ghost use Rattle.half_store.specs.Opened.{store_of};
 ghost use Rattle.half_store.specs.Writing.{IsWriting, from_of, half_bytes_of, pages_of};
-ghost use Rattle.row_pages.specs.Keeping.{AreRead};
 ghost use Rattle.tables.specs.View.{is_store};
 ghost use Rattle.unit_journal.specs.Journal.{held_of, region_of};
 ghost use Rattle.unit_journal.specs.Record.{entries_of};
@@ -27,7 +26,6 @@ use checkpoint_writer::{ImageError, Switched, finish_image};
 use drda_disk::Disk;
 use half_store::{Active, Full, ImageWriter, begin_image, half_bytes};
 use paged_tables::{PagedTables, TablesLeft};
-use row_pages::PageCache;
 use std::alloc::Global;
 use store_check::checkpoints_are_known;
 use table_map::TablePages;
@@ -44,7 +42,6 @@ pub struct Relaid {
 /// Writes tables and records into an image that was begun, and makes it the active half.
 fn write_image<'a, D: Disk>(
     alloc: Global,
-    cache: &mut PageCache,
     disk: &mut D,
     image: ImageWriter,
     active: &Active,
@@ -56,11 +53,11 @@ fn write_image<'a, D: Disk>(
     requires inside { from_of image + half_bytes_of image ≤ length (D.life disk.old).seen }
     requires tables { LieInside (length (D.life disk.old).seen) tables }
     requires store { is_store (all_shown tables) ≡ true }
-    ensures any_moment { AreReadable D.is_modelled (D.life disk.old).seen cache.old image tables.entry → (base : List ℕ) → IsWriting D.is_modelled (D.life disk.old) base (store_of active.now) image →
+    ensures any_moment { AreReadable D.is_modelled (D.life disk.old).seen image tables.entry → (base : List ℕ) → IsWriting D.is_modelled (D.life disk.old) base (store_of active.now) image →
         LeavesOnly (D.life disk.old) (D.life disk.new) (Moment base (store_of active.now) (all_shown tables.entry) (entries_of records.now) held) }
-    ensures done { IfOk result (λ r. AreReadable D.is_modelled (D.life disk.old).seen cache.old image tables.entry → (base : List ℕ) → IsWriting D.is_modelled (D.life disk.old) base (store_of active.now) image →
+    ensures done { IfOk result (λ r. AreReadable D.is_modelled (D.life disk.old).seen image tables.entry → (base : List ℕ) → IsWriting D.is_modelled (D.life disk.old) base (store_of active.now) image →
         IsAnew D.is_modelled (D.life disk.new) base (store_of active.now) (all_shown tables.entry) (entries_of records.now) held r.switched) }
-    ensures stand { IfOk result (λ r. AreReadable D.is_modelled (D.life disk.old).seen cache.old image tables.entry → (base : List ℕ) → IsWriting D.is_modelled (D.life disk.old) base (store_of active.now) image →
+    ensures stand { IfOk result (λ r. AreReadable D.is_modelled (D.life disk.old).seen image tables.entry → (base : List ℕ) → IsWriting D.is_modelled (D.life disk.old) base (store_of active.now) image →
         AreLaid (IsOnPages (D.life disk.new).seen) r.pages.items tables.entry) }
     ensures refused { OnRefused result ((base : List ℕ) → IsWriting D.is_modelled (D.life disk.old) base (store_of active.now) image →
         (c : List ℕ) → Now (D.life disk.new) c → IsOld base (store_of active.now) c) }
@@ -71,13 +68,13 @@ fn write_image<'a, D: Disk>(
     ensures held { IfOk result (λ r. held_of r.switched.journal ≡ held) }
     ensures ends { IfOk result (λ r. end_of (region_of r.switched.journal) ≡ from_of image + half_bytes_of image) }
     ensures size { length (D.life disk.new).seen ≡ length (D.life disk.old).seen }
-    ensures full { AreReadable D.is_modelled (D.life disk.old).seen cache.old image tables.entry → TellsRoom result (need_of (all_shown tables.entry) (entries_of records.now) held) (half_bytes_of image) }
-    ensures damaged { AreReadable D.is_modelled (D.life disk.old).seen cache.old image tables.entry → DamagedWhere ⊥ result }
+    ensures full { AreReadable D.is_modelled (D.life disk.old).seen image tables.entry → TellsRoom result (need_of (all_shown tables.entry) (entries_of records.now) held) (half_bytes_of image) }
+    ensures damaged { AreReadable D.is_modelled (D.life disk.old).seen image tables.entry → DamagedWhere ⊥ result }
     ensures cause { CountsImage result (D.life disk.old).faults (D.life disk.new).faults }
 {
     checkpoints_are_known();
     let mut image = image;
-    let written = write_pages(alloc, cache, disk, &mut image, tables)?;
+    let written = write_pages(alloc, disk, &mut image, tables)?;
     let first = written.first_catalogue;
     let pages = image.pages() - first;
     match finish_image(alloc, disk, image, active, first, pages, records, held) {
@@ -89,10 +86,9 @@ fn write_image<'a, D: Disk>(
     }
 }
 
-/// Writes a checkpoint where no page is kept.
+/// Writes a checkpoint, for which there is room.
 fn write_half<D: Disk>(
     alloc: Global,
-    cache: &mut PageCache,
     disk: &mut D,
     active: &Active,
     tables: &PagedTables,
@@ -101,7 +97,6 @@ fn write_half<D: Disk>(
 ) -> Result<Relaid, ImageError>
     requires size { IsTrue (is_store_size (length (D.life disk.old).seen)) }
     requires tables { LieInside (length (D.life disk.old).seen) tables.now.tables }
-    requires none { (file : List ℕ) → AreRead cache.old file }
     ensures any_moment { Rests D.is_modelled (D.life disk.old) (store_of active.now) → StandApart D.is_modelled (D.life disk.old).seen (store_of active.now) tables.now.tables →
         LeavesOnly (D.life disk.old) (D.life disk.new) (Moment (D.life disk.old).seen (store_of active.now) (store_in tables.now) (entries_of records.now) held) }
     ensures done { IfOk result (λ r. Rests D.is_modelled (D.life disk.old) (store_of active.now) → StandApart D.is_modelled (D.life disk.old).seen (store_of active.now) tables.now.tables →
@@ -123,16 +118,7 @@ fn write_half<D: Disk>(
     ensures cause { CountsImage result (D.life disk.old).faults (D.life disk.new).faults }
 {
     let image = begin_image(disk, active)?;
-    match write_image(
-        alloc,
-        cache,
-        disk,
-        image,
-        active,
-        tables.lend(),
-        records,
-        held,
-    ) {
+    match write_image(alloc, disk, image, active, tables.lend(), records, held) {
         Ok(relaid) => Ok(relaid),
         Err(ImageError::DeviceFailed) => Err(ImageError::DeviceFailed),
         // What was written is synced, so that a crash leaves what is read.
@@ -154,8 +140,7 @@ fn write_half<D: Disk>(
 /// Writes a checkpoint of these tables: all rows of each table that is created, those of its pages with
 /// the changes since, into pages of the half that is not active, behind them their catalogue, and behind
 /// that these records and no others; then that half becomes the active one, and its journal holds `held`
-/// bytes back. The disk has a store's size. No page is kept in the cache afterwards, since one that was
-/// could lie where the half was written.
+/// bytes back. The disk has a store's size.
 ///
 /// Where the tables' pages stand in the disk, outside of the half that is not active (`StandApart`), a
 /// crash at any moment leaves the old half as it was, or the new one whole (`Moment`), and the tables can
@@ -170,7 +155,6 @@ fn write_half<D: Disk>(
 /// half goes on then too.
 pub fn write_checkpoint<D: Disk>(
     alloc: Global,
-    cache: &mut PageCache,
     disk: &mut D,
     active: &Active,
     tables: &PagedTables,
@@ -194,7 +178,6 @@ pub fn write_checkpoint<D: Disk>(
     ensures among { IfOk result (λ r. AllByRecursion (LiesAmong (pages_of_active r.switched.active)) r.pages.items) }
     ensures pages { IfOk result (λ r. 8192 * r.switched.active.pages ≤ r.switched.active.region.at) }
     ensures front { IfOk result (λ r. r.switched.active.region.at ≤ length (D.life disk.new).seen) }
-    ensures kept { (file : List ℕ) → AreRead cache.new file }
     ensures held { IfOk result (λ r. held_of r.switched.journal ≡ held) }
     ensures inside { IfOk result (λ r. end_of (region_of r.switched.journal) ≤ length (D.life disk.new).seen) }
     ensures size { length (D.life disk.new).seen ≡ length (D.life disk.old).seen }
@@ -203,13 +186,10 @@ pub fn write_checkpoint<D: Disk>(
     ensures damaged { StandApart D.is_modelled (D.life disk.old).seen (store_of active.now) tables.now.tables → DamagedWhere ⊥ result }
     ensures cause { CountsImage result (D.life disk.old).faults (D.life disk.new).faults }
 {
-    cache.clear();
     let need = needed_bytes(alloc, disk, tables.lend(), records, held)?;
     let room = half_bytes(disk.size());
     if need > room {
         return Err(ImageError::Full(Full { need, room }));
     }
-    let relaid = write_half(alloc, cache, disk, active, tables, records, held);
-    cache.clear();
-    relaid
+    write_half(alloc, disk, active, tables, records, held)
 }

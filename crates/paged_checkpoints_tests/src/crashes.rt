@@ -1,7 +1,6 @@
 //! Devices that fail while a checkpoint is written, and crashes then.
 use crate::changes::Step;
-use crate::held::Held;
-use crate::stores::{again, apply, commit, new_cache, new_store, plain_of, shows};
+use crate::stores::{again, apply, commit, new_store, open_held, plain_of, shows};
 use checkpoint_writer::ImageError;
 use drda_disk::{FuseDisk, MemDisk};
 use std::alloc::Global;
@@ -29,19 +28,17 @@ fn failing(
     disk: MemDisk,
     call: u64,
 ) -> Result<(Result<(), ImageError>, MemDisk), Fail> {
-    let mut cache = new_cache(alloc)?;
     let disk = FuseDisk::new(disk, call, false);
-    let mut held = Held::open(alloc, &mut cache, disk)?;
+    let mut held = open_held(alloc, disk)?;
     commit(alloc, &mut held, &MORE)?;
-    let went = held.checkpoint(alloc, &mut cache, 50);
+    let went = held.checkpoint(alloc, 50);
     Ok((went, held.into_disk().into_inner()))
 }
 
 // How many calls an opening makes, and the disk then.
 fn opening_calls(alloc: Global, disk: MemDisk) -> Result<(u64, MemDisk), Fail> {
-    let mut cache = new_cache(alloc)?;
     let disk = FuseDisk::new(disk, u64::MAX, false);
-    let disk = Held::open(alloc, &mut cache, disk)?.into_disk();
+    let disk = open_held(alloc, disk)?.into_disk();
     Ok((disk.calls(), disk.into_inner()))
 }
 
@@ -59,10 +56,9 @@ fn tables_of(
     old: &mut PlainView,
     new: &mut PlainView,
 ) -> Result<(Tables, MemDisk), Fail> {
-    let mut cache = new_cache(alloc)?;
-    let mut held = Held::open(alloc, &mut cache, disk)?;
-    let is_old = shows(alloc, &mut cache, &mut held, old)?;
-    let is_new = shows(alloc, &mut cache, &mut held, new)?;
+    let mut held = open_held(alloc, disk)?;
+    let is_old = shows(alloc, &mut held, old)?;
+    let is_new = shows(alloc, &mut held, new)?;
     let tables = match (is_old, is_new) {
         (true, _) => Tables::Old,
         (false, true) => Tables::New,

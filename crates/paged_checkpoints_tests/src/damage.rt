@@ -1,9 +1,10 @@
 //! Checkpoints with damaged pages.
 use crate::changes::Step;
 use crate::held::{Held, PAGE_BYTES};
-use crate::stores::{commit, new_cache, written};
+use crate::stores::{commit, open_held, written};
 use checkpoint_writer::ImageError;
 use drda_disk::{Disk, MemDisk};
+use row_pages::{PageCache, Pager};
 use std::alloc::{AllocError, Global};
 use std::test::Fail;
 use store_check::CheckError;
@@ -40,8 +41,8 @@ fn damaged(alloc: Global, bytes: &[(usize, usize, u8)]) -> Result<MemDisk, Fail>
 
 // Why a store is not opened, but for want of memory.
 fn fault_of(alloc: Global, disk: MemDisk) -> Result<Option<CheckError>, Fail> {
-    let mut cache = new_cache(alloc)?;
-    match Held::open(alloc, &mut cache, disk) {
+    let cache = PageCache::new(alloc, 2)?;
+    match Held::open(alloc, Pager::over(disk, cache)) {
         Ok(_) => Ok(None),
         Err(CheckError::NoMemory) => Err(AllocError.into()),
         Err(error) => Ok(Some(error)),
@@ -87,11 +88,10 @@ fn over_damage(
     alloc: Global,
     page: usize,
 ) -> Result<(Option<ImageError>, Option<CheckError>), Fail> {
-    let mut cache = new_cache(alloc)?;
-    let mut held = Held::open(alloc, &mut cache, written(alloc, &STEPS)?)?;
+    let mut held = open_held(alloc, written(alloc, &STEPS)?)?;
     commit(alloc, &mut held, &[Step::Put("A", (0, 1, 1))])?;
     held.damage(SECOND_AT.saturating_add(PAGE_BYTES.saturating_mul(page)));
-    let told = held.checkpoint(alloc, &mut cache, 0).err();
+    let told = held.checkpoint(alloc, 0).err();
     Ok((told, fault_of(alloc, held.into_disk())?))
 }
 

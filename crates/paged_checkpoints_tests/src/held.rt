@@ -4,7 +4,7 @@ use drda_disk::Disk;
 use half_store::{Active, OpenError, open};
 use paged_checkpoints::{open_checkpoint, write_checkpoint};
 use paged_tables::PagedTables;
-use row_pages::{PageCache, PageFault};
+use row_pages::{PageFault, Pager};
 use std::alloc::{AllocError, Global};
 use std::marker::Model;
 use store_check::CheckError;
@@ -20,7 +20,7 @@ pub const PAGE_BYTES: usize = 8_192;
 #[derive(Drop)]
 pub struct Held<D: Disk> {
     tables: PagedTables,
-    disk: D,
+    pager: Pager<D>,
     active: Active,
 }
 
@@ -33,7 +33,7 @@ impl<D: Disk> Model for Held<D> {
 
     ghost view = { λ h. h.tables };
 
-    ghost invariant = { λ h. LieInside (length (D.life h.disk).seen) h.tables.tables };
+    ghost invariant = { λ h. LieInside (length (D.life h.pager).seen) h.tables.tables };
 }
 
 // The active half of a store.
@@ -47,18 +47,18 @@ fn active_in<D: Disk>(alloc: Global, disk: &mut D) -> Result<Active, CheckError>
 
 impl<D: Disk + Drop> Held<D> {
     /// The tables of a store's last checkpoint.
-    pub fn open(alloc: Global, cache: &mut PageCache, disk: D) -> Result<Held<D>, CheckError> {
-        let mut disk = disk;
-        let active = active_in(alloc, &mut disk)?;
+    pub fn open(alloc: Global, pager: Pager<D>) -> Result<Held<D>, CheckError> {
+        let mut pager = pager;
+        let active = active_in(alloc, &mut pager)?;
         let pages = active.pages as usize;
         let end = active.region.at;
-        if end > STORE_BYTES || end > disk.size() || PAGE_BYTES * pages > end {
+        if end > STORE_BYTES || end > pager.size() || PAGE_BYTES * pages > end {
             return Err(CheckError::DeviceFailed);
         }
-        let tables = open_checkpoint(alloc, cache, &mut disk, &active)?;
+        let tables = open_checkpoint(alloc, &mut pager, &active)?;
         Ok(Held {
             tables,
-            disk,
+            pager,
             active,
         })
     }
@@ -71,19 +71,13 @@ impl<D: Disk + Drop> Held<D> {
     }
 
     /// Writes a checkpoint that holds so many bytes back, and goes on over its pages.
-    pub fn checkpoint(
-        &mut self,
-        alloc: Global,
-        cache: &mut PageCache,
-        held: usize,
-    ) -> Result<(), ImageError> {
-        if self.disk.size() != STORE_BYTES {
+    pub fn checkpoint(&mut self, alloc: Global, held: usize) -> Result<(), ImageError> {
+        if self.pager.size() != STORE_BYTES {
             return Err(ImageError::Damaged);
         }
         let relaid = write_checkpoint(
             alloc,
-            cache,
-            &mut self.disk,
+            &mut self.pager,
             &self.active,
             &self.tables,
             &[],
@@ -101,19 +95,14 @@ impl<D: Disk + Drop> Held<D> {
 
     /// Makes the byte at an offset another one.
     pub fn damage(&mut self, at: usize) {
-        if at < STORE_BYTES && at < self.disk.size() {
-            let _ = self.disk.write_at(at, &[9]);
+        if at < STORE_BYTES && at < self.pager.size() {
+            let _ = self.pager.write_at(at, &[9]);
         }
     }
 
     /// All rows of a table.
-    pub fn rows(
-        &mut self,
-        alloc: Global,
-        cache: &mut PageCache,
-        name: &str,
-    ) -> Result<Rows, PageFault> {
-        self.tables.rows(alloc, cache, &mut self.disk, name)
+    pub fn rows(&mut self, alloc: Global, name: &str) -> Result<Rows, PageFault> {
+        self.tables.rows(alloc, &mut self.pager, name)
     }
 
     /// How many tables there are.
@@ -123,6 +112,6 @@ impl<D: Disk + Drop> Held<D> {
 
     /// The disk.
     pub fn into_disk(self) -> D {
-        self.disk
+        self.pager.into_disk()
     }
 }

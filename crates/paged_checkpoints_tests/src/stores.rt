@@ -4,7 +4,7 @@ use crate::changes::{Step, changes_of};
 use crate::held::{Held, STORE_BYTES};
 use drda_disk::{Disk, MemDisk};
 use half_store::format;
-use row_pages::PageCache;
+use row_pages::{PageCache, Pager};
 use std::alloc::Global;
 use std::test::Fail;
 use tables::{PlainView, Rows, TableView};
@@ -19,9 +19,10 @@ pub fn new_store(alloc: Global) -> Result<MemDisk, Fail> {
     Ok(disk)
 }
 
-/// A cache of few pages.
-pub fn new_cache(alloc: Global) -> Result<PageCache, Fail> {
-    Ok(PageCache::new(alloc, 2)?)
+/// The tables of a disk's store, of which few pages are kept.
+pub fn open_held<D: Disk + Drop>(alloc: Global, disk: D) -> Result<Held<D>, Fail> {
+    let cache = PageCache::new(alloc, 2)?;
+    Ok(Held::open(alloc, Pager::over(disk, cache))?)
 }
 
 /// Makes the changes of steps.
@@ -57,10 +58,9 @@ pub fn plain_of(alloc: Global, steps: &[Step]) -> Result<PlainView, Fail> {
 pub fn again(alloc: Global, disk: MemDisk, steps: &[Step]) -> Result<MemDisk, Fail> {
     let mut disk = disk;
     format(alloc, &mut disk, "TEST")?;
-    let mut cache = new_cache(alloc)?;
-    let mut held = Held::open(alloc, &mut cache, disk)?;
+    let mut held = open_held(alloc, disk)?;
     commit(alloc, &mut held, steps)?;
-    held.checkpoint(alloc, &mut cache, 0)?;
+    held.checkpoint(alloc, 0)?;
     Ok(held.into_disk())
 }
 
@@ -84,12 +84,11 @@ fn are_alike(here: &Rows, there: &Rows) -> bool {
 /// Whether the tables show what plain ones do.
 pub fn shows<D: Disk + Drop>(
     alloc: Global,
-    cache: &mut PageCache,
     held: &mut Held<D>,
     plain: &mut PlainView,
 ) -> Result<bool, Fail> {
     for name in NAMES {
-        let here = held.rows(alloc, cache, name)?;
+        let here = held.rows(alloc, name)?;
         if !are_alike(&here, &plain.scan(alloc, name)?) {
             return Ok(false);
         }

@@ -1,10 +1,10 @@
 //! Checkpoints that are written and opened.
 use crate::changes::Step;
 use crate::held::Held;
-use crate::stores::{apply, commit, new_cache, new_store, plain_of, shows, written};
+use crate::stores::{apply, commit, new_store, open_held, plain_of, shows, written};
 use checkpoint_writer::ImageError;
 use half_store::Full;
-use row_pages::PageCache;
+use row_pages::{PageCache, Pager};
 use std::alloc::Global;
 use std::test::Fail;
 use tables::PlainView;
@@ -43,21 +43,21 @@ const STORY: [&'static [Step]; 7] = [
 // Goes through the story; whether the tables show the same as plain ones at each of its points: changed,
 // over their new pages, and opened again.
 fn is_told(alloc: Global, cached: usize) -> Result<Option<usize>, Fail> {
-    let mut cache = PageCache::new(alloc, cached.max(1))?;
     let mut plain = PlainView::new(alloc);
     let mut disk = new_store(alloc)?;
     for (point, steps) in STORY.iter().enumerate() {
-        let mut held = Held::open(alloc, &mut cache, disk)?;
+        let cache = PageCache::new(alloc, cached.max(1))?;
+        let mut held = Held::open(alloc, Pager::over(disk, cache))?;
         commit(alloc, &mut held, steps)?;
         apply(alloc, &mut plain, steps)?;
-        if !shows(alloc, &mut cache, &mut held, &mut plain)? {
+        if !shows(alloc, &mut held, &mut plain)? {
             return Ok(Some(point));
         }
-        held.checkpoint(alloc, &mut cache, 0)?;
-        if !shows(alloc, &mut cache, &mut held, &mut plain)? {
+        held.checkpoint(alloc, 0)?;
+        if !shows(alloc, &mut held, &mut plain)? {
             return Ok(Some(point));
         }
-        held.checkpoint(alloc, &mut cache, 100)?;
+        held.checkpoint(alloc, 100)?;
         disk = held.into_disk();
     }
     Ok(None)
@@ -92,8 +92,7 @@ fn refused(
     generation: Option<u64>,
     held_back: usize,
 ) -> Result<(Option<ImageError>, bool), Fail> {
-    let mut cache = new_cache(alloc)?;
-    let mut held = Held::open(alloc, &mut cache, written(alloc, &FEW)?)?;
+    let mut held = open_held(alloc, written(alloc, &FEW)?)?;
     let mut before = plain_of(alloc, &FEW)?;
     let mut after = plain_of(alloc, &FEW)?;
     apply(alloc, &mut after, more)?;
@@ -101,13 +100,10 @@ fn refused(
     if let Some(generation) = generation {
         held.age(generation);
     }
-    let told = held.checkpoint(alloc, &mut cache, held_back).err();
-    let is_kept = shows(alloc, &mut cache, &mut held, &mut after)?;
-    let mut again = Held::open(alloc, &mut cache, held.into_disk())?;
-    Ok((
-        told,
-        is_kept && shows(alloc, &mut cache, &mut again, &mut before)?,
-    ))
+    let told = held.checkpoint(alloc, held_back).err();
+    let is_kept = shows(alloc, &mut held, &mut after)?;
+    let mut again = open_held(alloc, held.into_disk())?;
+    Ok((told, is_kept && shows(alloc, &mut again, &mut before)?))
 }
 
 #[test]

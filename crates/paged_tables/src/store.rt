@@ -4,7 +4,7 @@ ghost use Rattle.std.specs.Prelude.{◌≡◌, ◌++◌, ◌∷◌, [], ℕ, Lis
 ghost use Rattle.std.specs.Arc.{arc_value};
 ghost use Rattle.std.specs.String.{string_bytes};
 ghost use Rattle.drda_disk.specs.Disk.{Stays};
-ghost use Rattle.row_pages.specs.Keeping.{AreRead, CountsPageFault};
+ghost use Rattle.row_pages.specs.Keeping.{CountsPageFault};
 ghost use Rattle.row_values.specs.Schema.{is_name};
 ghost use Rattle.table_map.specs.Damage.{DamagedWhere};
 ghost use Rattle.table_map.specs.Keyed.{copied};
@@ -18,7 +18,7 @@ use crate::lending::TablesLeft;
 use crate::steps::{Step, apply_all, release_all, reserve_all};
 use crate::tables_by_name::TablesByName;
 use drda_disk::Disk;
-use row_pages::{PageCache, PageFault};
+use row_pages::{PageFault, Pager};
 use row_values::Schema;
 use std::alloc::{AllocError, Global};
 use std::sync::Arc;
@@ -74,20 +74,18 @@ impl PagedTables {
     pub fn row<D: Disk>(
         &self,
         alloc: Global,
-        cache: &mut PageCache,
-        disk: &mut D,
+        pager: &mut Pager<D>,
         table: &str,
         key: &[u8],
     ) -> Result<Option<Vec<u8>>, PageFault>
-        requires { LieInside (length (D.life disk.old).seen) self.now.tables }
-        ensures found { IsTrue D.is_modelled → AreRead cache.old (D.life disk.old).seen → AreOnPages (D.life disk.old).seen self.now.tables → IfOk result (λ row. copied row ≡ row_of (store_in self.now) table.now key.now) }
-        ensures whole { IsTrue D.is_modelled → AreRead cache.old (D.life disk.old).seen → AreOnPages (D.life disk.old).seen self.now.tables → DamagedWhere ⊥ result }
-        ensures kept { IsTrue D.is_modelled → AreRead cache.old (D.life disk.old).seen → AreRead cache.new (D.life disk.new).seen }
-        ensures stays { Stays (D.life disk.old) (D.life disk.new) }
-        ensures cause { CountsPageFault result (D.life disk.old).faults (D.life disk.new).faults }
+        requires { LieInside (length (D.life pager.old).seen) self.now.tables }
+        ensures found { IsTrue D.is_modelled → AreOnPages (D.life pager.old).seen self.now.tables → IfOk result (λ row. copied row ≡ row_of (store_in self.now) table.now key.now) }
+        ensures whole { IsTrue D.is_modelled → AreOnPages (D.life pager.old).seen self.now.tables → DamagedWhere ⊥ result }
+        ensures stays { Stays (D.life pager.old) (D.life pager.new) }
+        ensures cause { CountsPageFault result (D.life pager.old).faults (D.life pager.new).faults }
     {
         match self.tables.created(table) {
-            Some(table) => table.get(alloc, cache, disk, key),
+            Some(table) => table.get(alloc, pager, key),
             None => Ok(None),
         }
     }
@@ -97,19 +95,17 @@ impl PagedTables {
     pub fn rows<D: Disk>(
         &self,
         alloc: Global,
-        cache: &mut PageCache,
-        disk: &mut D,
+        pager: &mut Pager<D>,
         table: &str,
     ) -> Result<Rows, PageFault>
-        requires { LieInside (length (D.life disk.old).seen) self.now.tables }
-        ensures rows { IsTrue D.is_modelled → AreRead cache.old (D.life disk.old).seen → AreOnPages (D.life disk.old).seen self.now.tables → IfOk result (λ rows. rows ≡ rows_of (store_in self.now) table.now) }
-        ensures whole { IsTrue D.is_modelled → AreRead cache.old (D.life disk.old).seen → AreOnPages (D.life disk.old).seen self.now.tables → DamagedWhere ⊥ result }
-        ensures kept { IsTrue D.is_modelled → AreRead cache.old (D.life disk.old).seen → AreRead cache.new (D.life disk.new).seen }
-        ensures stays { Stays (D.life disk.old) (D.life disk.new) }
-        ensures cause { CountsPageFault result (D.life disk.old).faults (D.life disk.new).faults }
+        requires { LieInside (length (D.life pager.old).seen) self.now.tables }
+        ensures rows { IsTrue D.is_modelled → AreOnPages (D.life pager.old).seen self.now.tables → IfOk result (λ rows. rows ≡ rows_of (store_in self.now) table.now) }
+        ensures whole { IsTrue D.is_modelled → AreOnPages (D.life pager.old).seen self.now.tables → DamagedWhere ⊥ result }
+        ensures stays { Stays (D.life pager.old) (D.life pager.new) }
+        ensures cause { CountsPageFault result (D.life pager.old).faults (D.life pager.new).faults }
     {
         match self.tables.created(table) {
-            Some(table) => table.scan(alloc, cache, disk),
+            Some(table) => table.scan(alloc, pager),
             None => Ok(Rows::new(alloc)),
         }
     }

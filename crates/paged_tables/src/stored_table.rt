@@ -7,7 +7,7 @@ ghost use Rattle.drda_disk.specs.Disk.{Stays};
 ghost use Rattle.key_map.specs.Merging.{row_at};
 ghost use Rattle.key_map.specs.RowForm.{row_form};
 ghost use Rattle.key_map.specs.Slots.{HasRoom};
-ghost use Rattle.row_pages.specs.Keeping.{AreRead, CountsPageFault};
+ghost use Rattle.row_pages.specs.Keeping.{CountsPageFault};
 ghost use Rattle.row_values.specs.Key.{is_key};
 ghost use Rattle.row_values.specs.Row.{is_row};
 ghost use Rattle.row_values.specs.Schema.{is_schema};
@@ -20,7 +20,7 @@ ghost use Rattle.paged_tables.specs.Stored.{AreRowsOf, FormsKey, FormsRow, HasRo
 use drda_disk::Disk;
 use key_map::laws::rows_have_their_forms;
 use key_map::{row_form, sort_form};
-use row_pages::{PageCache, PageFault};
+use row_pages::{PageFault, Pager};
 use row_values::laws::rows_have_values_and_keys;
 use row_values::{RowRef, Schema, is_key};
 use std::alloc::{AllocError, Global};
@@ -120,19 +120,17 @@ impl StoredTable {
     pub fn get<D: Disk>(
         &self,
         alloc: Global,
-        cache: &mut PageCache,
-        disk: &mut D,
+        pager: &mut Pager<D>,
         key: &[u8],
     ) -> Result<Option<Vec<u8>>, PageFault>
-        requires { LiesInside (length (D.life disk.old).seen) self.now }
-        ensures found { IsTrue D.is_modelled → AreRead cache.old (D.life disk.old).seen → IsOnPages (D.life disk.old).seen self.now → IfOk result (λ row. copied row ≡ lookup (bytes_eq key.now) (table_in self.now).rows) }
-        ensures whole { IsTrue D.is_modelled → AreRead cache.old (D.life disk.old).seen → IsOnPages (D.life disk.old).seen self.now → DamagedWhere ⊥ result }
-        ensures kept { IsTrue D.is_modelled → AreRead cache.old (D.life disk.old).seen → AreRead cache.new (D.life disk.new).seen }
-        ensures stays { Stays (D.life disk.old) (D.life disk.new) }
-        ensures cause { CountsPageFault result (D.life disk.old).faults (D.life disk.new).faults }
+        requires { LiesInside (length (D.life pager.old).seen) self.now }
+        ensures found { IsTrue D.is_modelled → IsOnPages (D.life pager.old).seen self.now → IfOk result (λ row. copied row ≡ lookup (bytes_eq key.now) (table_in self.now).rows) }
+        ensures whole { IsTrue D.is_modelled → IsOnPages (D.life pager.old).seen self.now → DamagedWhere ⊥ result }
+        ensures stays { Stays (D.life pager.old) (D.life pager.new) }
+        ensures cause { CountsPageFault result (D.life pager.old).faults (D.life pager.new).faults }
     {
         match form_of_key(alloc, &self.schema, key) {
-            Ok(Some(form)) => self.row_at(alloc, cache, disk, form.as_slice()),
+            Ok(Some(form)) => self.row_at(alloc, pager, form.as_slice()),
             Ok(None) => Ok(None),
             Err(_) => Err(PageFault::NoMemory),
         }
@@ -142,44 +140,36 @@ impl StoredTable {
     fn row_at<D: Disk>(
         &self,
         alloc: Global,
-        cache: &mut PageCache,
-        disk: &mut D,
+        pager: &mut Pager<D>,
         form: &[u8],
     ) -> Result<Option<Vec<u8>>, PageFault>
-        requires { LiesInside (length (D.life disk.old).seen) self.now }
-        ensures found { IsTrue D.is_modelled → AreRead cache.old (D.life disk.old).seen → IsOnPages (D.life disk.old).seen self.now → IfOk result (λ row. copied row ≡ row_at form.now (rows_in self.now)) }
-        ensures whole { IsTrue D.is_modelled → AreRead cache.old (D.life disk.old).seen → IsOnPages (D.life disk.old).seen self.now → DamagedWhere ⊥ result }
-        ensures kept { IsTrue D.is_modelled → AreRead cache.old (D.life disk.old).seen → AreRead cache.new (D.life disk.new).seen }
-        ensures stays { Stays (D.life disk.old) (D.life disk.new) }
-        ensures cause { CountsPageFault result (D.life disk.old).faults (D.life disk.new).faults }
+        requires { LiesInside (length (D.life pager.old).seen) self.now }
+        ensures found { IsTrue D.is_modelled → IsOnPages (D.life pager.old).seen self.now → IfOk result (λ row. copied row ≡ row_at form.now (rows_in self.now)) }
+        ensures whole { IsTrue D.is_modelled → IsOnPages (D.life pager.old).seen self.now → DamagedWhere ⊥ result }
+        ensures stays { Stays (D.life pager.old) (D.life pager.new) }
+        ensures cause { CountsPageFault result (D.life pager.old).faults (D.life pager.new).faults }
     {
         stored_tables_are_whole();
         let keys = SchemaKeys {
             schema: &self.schema,
         };
-        self.rows.get(alloc, &keys, cache, disk, form)
+        self.rows.get(alloc, &keys, pager, form)
     }
 
     /// All rows, in the order of their keys. Each page is looked at once.
-    pub fn scan<D: Disk>(
-        &self,
-        alloc: Global,
-        cache: &mut PageCache,
-        disk: &mut D,
-    ) -> Result<Rows, PageFault>
-        requires { LiesInside (length (D.life disk.old).seen) self.now }
-        ensures rows { IsTrue D.is_modelled → AreRead cache.old (D.life disk.old).seen → IsOnPages (D.life disk.old).seen self.now → IfOk result (λ rows. rows ≡ values_of (table_in self.now).rows) }
-        ensures whole { IsTrue D.is_modelled → AreRead cache.old (D.life disk.old).seen → IsOnPages (D.life disk.old).seen self.now → DamagedWhere ⊥ result }
-        ensures kept { IsTrue D.is_modelled → AreRead cache.old (D.life disk.old).seen → AreRead cache.new (D.life disk.new).seen }
-        ensures stays { Stays (D.life disk.old) (D.life disk.new) }
-        ensures cause { CountsPageFault result (D.life disk.old).faults (D.life disk.new).faults }
+    pub fn scan<D: Disk>(&self, alloc: Global, pager: &mut Pager<D>) -> Result<Rows, PageFault>
+        requires { LiesInside (length (D.life pager.old).seen) self.now }
+        ensures rows { IsTrue D.is_modelled → IsOnPages (D.life pager.old).seen self.now → IfOk result (λ rows. rows ≡ values_of (table_in self.now).rows) }
+        ensures whole { IsTrue D.is_modelled → IsOnPages (D.life pager.old).seen self.now → DamagedWhere ⊥ result }
+        ensures stays { Stays (D.life pager.old) (D.life pager.new) }
+        ensures cause { CountsPageFault result (D.life pager.old).faults (D.life pager.new).faults }
     {
         stored_tables_are_whole();
         let keys = SchemaKeys {
             schema: &self.schema,
         };
         let mut rows = Rows::new(alloc);
-        match self.rows.scan_into(alloc, &keys, cache, disk, &mut rows) {
+        match self.rows.scan_into(alloc, &keys, pager, &mut rows) {
             Ok(()) => Ok(rows),
             Err(fault) => Err(fault),
         }

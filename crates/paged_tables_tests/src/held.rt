@@ -12,7 +12,7 @@ use checkpoint_writer::{ImageError, merge_into};
 use drda_disk::Disk;
 use half_store::{Active, ImageWriter, begin_image};
 use paged_tables::{PagedTables, TableRef};
-use row_pages::{PageCache, PageFault};
+use row_pages::{PageFault, Pager};
 use row_values::Schema;
 use std::alloc::{AllocError, Global};
 use std::marker::Model;
@@ -26,7 +26,7 @@ pub const STORE_BYTES: usize = 2_097_152;
 #[derive(Drop)]
 pub struct Held<D: Disk> {
     tables: PagedTables,
-    disk: D,
+    pager: Pager<D>,
 }
 
 impl<D: Disk> Model for Held<D> {
@@ -38,15 +38,15 @@ impl<D: Disk> Model for Held<D> {
 
     ghost view = { λ h. h.tables };
 
-    ghost invariant = { λ h. LieInside (length (D.life h.disk).seen) h.tables.tables };
+    ghost invariant = { λ h. LieInside (length (D.life h.pager).seen) h.tables.tables };
 }
 
 impl<D: Disk> Held<D> {
     /// No tables.
-    pub fn new(alloc: Global, disk: D) -> Held<D> {
+    pub fn new(alloc: Global, pager: Pager<D>) -> Held<D> {
         Held {
             tables: PagedTables::new(alloc),
-            disk,
+            pager,
         }
     }
 
@@ -59,25 +59,18 @@ impl<D: Disk> Held<D> {
     pub fn row(
         &mut self,
         alloc: Global,
-        cache: &mut PageCache,
         name: &str,
         key: &[u8],
     ) -> Result<Option<Vec<u8>>, PageFault> {
-        self.tables.row(alloc, cache, &mut self.disk, name, key)
+        self.tables.row(alloc, &mut self.pager, name, key)
     }
 
     /// All rows of a table, as it is or as it is lent.
-    pub fn rows(
-        &mut self,
-        alloc: Global,
-        cache: &mut PageCache,
-        name: &str,
-        is_lent: bool,
-    ) -> Result<Rows, PageFault> {
+    pub fn rows(&mut self, alloc: Global, name: &str, is_lent: bool) -> Result<Rows, PageFault> {
         if is_lent {
-            return scan_lent(alloc, &self.tables, cache, &mut self.disk, name);
+            return scan_lent(alloc, &self.tables, &mut self.pager, name);
         }
-        self.tables.rows(alloc, cache, &mut self.disk, name)
+        self.tables.rows(alloc, &mut self.pager, name)
     }
 
     /// Makes room for changes.
@@ -98,23 +91,16 @@ impl<D: Disk> Held<D> {
     }
 
     /// Lays all rows into the half that is not active, and goes on over those pages. Tells how many there are.
-    pub fn checkpoint(
-        &mut self,
-        alloc: Global,
-        cache: &mut PageCache,
-        active: &Active,
-    ) -> Result<u32, ImageError> {
-        cache.clear();
-        if self.disk.size() != STORE_BYTES {
+    pub fn checkpoint(&mut self, alloc: Global, active: &Active) -> Result<u32, ImageError> {
+        if self.pager.size() != STORE_BYTES {
             return Err(ImageError::Damaged);
         }
-        let mut image = begin_image(&mut self.disk, active)?;
-        let pages = lay_all(alloc, &self.tables, cache, &mut self.disk, &mut image)?;
+        let mut image = begin_image(&mut self.pager, active)?;
+        let pages = lay_all(alloc, &self.tables, &mut self.pager, &mut image)?;
         if pages.len() != self.tables.count() {
             return Err(ImageError::Damaged);
         }
         self.tables.relaid(alloc, pages);
-        cache.clear();
         Ok(image.pages())
     }
 }
@@ -123,7 +109,7 @@ impl<D: Disk + Drop> Held<D> {
     /// One table without pages, as an opening finds it.
     pub fn opened(
         alloc: Global,
-        disk: D,
+        pager: Pager<D>,
         name: String,
         schema: Schema,
     ) -> Result<Held<D>, AllocError>
@@ -135,7 +121,7 @@ impl<D: Disk + Drop> Held<D> {
             rows: NotedRows::none(),
         };
         tables.add(alloc, name, schema, pages)?;
-        Ok(Held { tables, disk })
+        Ok(Held { tables, pager })
     }
 }
 
@@ -143,7 +129,6 @@ impl<D: Disk + Drop> Held<D> {
 fn lay<D: Disk>(
     alloc: Global,
     table: &TableRef<'_>,
-    cache: &mut PageCache,
     disk: &mut D,
     image: &mut ImageWriter,
 ) -> Result<TablePages, ImageError>
@@ -156,7 +141,7 @@ fn lay<D: Disk>(
     let keys = SchemaKeys {
         schema: table.schema,
     };
-    let written = merge_into(alloc, &keys, table.rows, cache, disk, image)?;
+    let written = merge_into(alloc, &keys, table.rows, disk, image)?;
     let end = image.finish_pages();
     if end.at > disk.size() {
         return Err(ImageError::Damaged);
@@ -168,7 +153,6 @@ fn lay<D: Disk>(
 fn lay_all<D: Disk>(
     alloc: Global,
     tables: &PagedTables,
-    cache: &mut PageCache,
     disk: &mut D,
     image: &mut ImageWriter,
 ) -> Result<Vec<TablePages>, ImageError>
@@ -180,7 +164,7 @@ fn lay_all<D: Disk>(
     let mut pages = Vec::new(alloc);
     let mut left = tables.lend();
     while let Some(table) = left.next_table() {
-        let laid = lay(alloc, &table, cache, disk, image)?;
+        let laid = lay(alloc, &table, disk, image)?;
         if pages.push(laid).is_err() {
             return Err(ImageError::NoMemory);
         }

@@ -5,7 +5,7 @@ ghost use Rattle.paged_tables.specs.TablesByName.{LieInside};
 
 use drda_disk::Disk;
 use paged_tables::{PagedTables, TableRef};
-use row_pages::{PageCache, PageFault};
+use row_pages::{PageFault, Pager};
 use std::alloc::Global;
 use table_map::SchemaKeys;
 use tables::Rows;
@@ -37,12 +37,11 @@ fn lent<'a>(tables: &'a PagedTables, name: &str) -> Option<TableRef<'a>>
 pub fn scan_lent<D: Disk>(
     alloc: Global,
     tables: &PagedTables,
-    cache: &mut PageCache,
-    disk: &mut D,
+    pager: &mut Pager<D>,
     name: &str,
 ) -> Result<Rows, PageFault>
-    requires { LieInside (length (D.life disk.old).seen) tables.now.tables }
-    ensures { Stays (D.life disk.old) (D.life disk.new) }
+    requires { LieInside (length (D.life pager.old).seen) tables.now.tables }
+    ensures { Stays (D.life pager.old) (D.life pager.new) }
 {
     let mut rows = Rows::new(alloc);
     let Some(table) = lent(tables, name) else {
@@ -51,7 +50,7 @@ pub fn scan_lent<D: Disk>(
     let keys = SchemaKeys {
         schema: table.schema,
     };
-    match table.rows.scan_into(alloc, &keys, cache, disk, &mut rows) {
+    match table.rows.scan_into(alloc, &keys, pager, &mut rows) {
         Ok(()) => Ok(rows),
         Err(fault) => Err(fault),
     }

@@ -8,7 +8,7 @@ use ahead_view::Wanted;
 use drda_disk::{FuseDisk, MemDisk};
 use half_store::{Active, format, open};
 use paged_tables::PagedTables;
-use row_pages::PageCache;
+use row_pages::{PageCache, Pager};
 use row_values::{Schema, is_name};
 use std::alloc::Global;
 use tables::{Change, PlainView, Rows, TableView};
@@ -20,18 +20,21 @@ pub struct Stores {
     alloc: Global,
     held: Held<FuseDisk<MemDisk>>,
     active: Active,
-    cache: PageCache,
     plain: PlainView,
     changes: Vec<Change>,
     copies: Vec<Change>,
 }
 
-// A disk with an empty store, as it is opened, which fails behind so many calls.
-fn new_store(alloc: Global, calls: u64) -> Option<(FuseDisk<MemDisk>, Active)> {
+// A disk with an empty store, as it is opened, which fails behind so many calls and keeps two pages.
+fn new_store(alloc: Global, calls: u64) -> Option<(Pager<FuseDisk<MemDisk>>, Active)> {
+    let cache = PageCache::new(alloc, 2).ok()?;
     let mut disk = MemDisk::new(alloc, STORE_BYTES).ok()?;
     format(alloc, &mut disk, "TEST").ok()?;
     let active = open(alloc, &mut disk).ok()?;
-    Some((FuseDisk::new(disk, calls, false), active))
+    Some((
+        Pager::over(FuseDisk::new(disk, calls, false), cache),
+        active,
+    ))
 }
 
 // A store with one table of this name.
@@ -45,8 +48,8 @@ fn opened_store(
         return None;
     }
     let copy = schema.copy(alloc).ok()?;
-    let (disk, active) = new_store(alloc, u64::MAX)?;
-    let held = Held::opened(alloc, disk, table, copy).ok()?;
+    let (pager, active) = new_store(alloc, u64::MAX)?;
+    let held = Held::opened(alloc, pager, table, copy).ok()?;
     Some((held, active))
 }
 
@@ -95,7 +98,6 @@ impl Stores {
     // These, with no change.
     fn over(
         alloc: Global,
-        cache: PageCache,
         plain: PlainView,
         (held, active): (Held<FuseDisk<MemDisk>>, Active),
     ) -> Stores {
@@ -103,7 +105,6 @@ impl Stores {
             alloc,
             held,
             active,
-            cache,
             plain,
             changes: Vec::new(alloc),
             copies: Vec::new(alloc),
@@ -112,18 +113,16 @@ impl Stores {
 
     /// No table, and no change, over a device that fails behind so many calls.
     pub fn new(alloc: Global, calls: u64) -> Option<Stores> {
-        let cache = PageCache::new(alloc, 2).ok()?;
-        let (disk, active) = new_store(alloc, calls)?;
-        let held = Held::new(alloc, disk);
-        Some(Stores::over(alloc, cache, PlainView::new(alloc), (held, active)))
+        let (pager, active) = new_store(alloc, calls)?;
+        let held = Held::new(alloc, pager);
+        Some(Stores::over(alloc, PlainView::new(alloc), (held, active)))
     }
 
     /// One table of this name, as an opening finds it.
     pub fn opened(alloc: Global, name: &str, schema: &Schema) -> Option<Stores> {
-        let cache = PageCache::new(alloc, 2).ok()?;
         let plain = plain_with(alloc, name, schema)?;
         let opened = opened_store(alloc, name, schema)?;
-        Some(Stores::over(alloc, cache, plain, opened))
+        Some(Stores::over(alloc, plain, opened))
     }
 
     /// The tables over pages.
@@ -182,9 +181,7 @@ impl Stores {
 
     /// Lays all rows into pages of the other half, and tells how many there are.
     pub fn checkpoint(&mut self, out: &mut Vec<u8>) -> Option<()> {
-        let done = self
-            .held
-            .checkpoint(self.alloc, &mut self.cache, &self.active);
+        let done = self.held.checkpoint(self.alloc, &self.active);
         match done {
             Ok(pages) => {
                 self.active.half = self.active.half.other();
@@ -197,10 +194,7 @@ impl Stores {
     // Whether a table shows the same, as it is or as it is lent.
     fn is_alike(&mut self, is_lent: bool, name: &str) -> Option<bool> {
         let there = self.plain.scan(self.alloc, name).ok()?;
-        let here = self
-            .held
-            .rows(self.alloc, &mut self.cache, name, is_lent)
-            .ok()?;
+        let here = self.held.rows(self.alloc, name, is_lent).ok()?;
         Some(are_alike(&here, &there))
     }
 
@@ -226,13 +220,13 @@ impl Stores {
 
     /// Tells the row of a key.
     pub fn tell_row(&mut self, name: &str, key: &[u8], out: &mut Vec<u8>) -> Option<()> {
-        let found = self.held.row(self.alloc, &mut self.cache, name, key);
+        let found = self.held.row(self.alloc, name, key);
         tell_found(self.alloc, found, out)
     }
 
     /// Tells the rows of a table, in their order.
     pub fn tell_rows(&mut self, name: &str, out: &mut Vec<u8>) -> Option<()> {
-        let found = self.held.rows(self.alloc, &mut self.cache, name, false);
+        let found = self.held.rows(self.alloc, name, false);
         tell_scanned(self.alloc, found, out)
     }
 
@@ -244,7 +238,7 @@ impl Stores {
         asked: &[u8],
         out: &mut Vec<u8>,
     ) -> Option<()> {
-        let row = self.held.row(self.alloc, &mut self.cache, name, read).ok()?;
+        let row = self.held.row(self.alloc, name, read).ok()?;
         let mut given = Given::new(only(self.alloc, row)?);
         let wanted = Wanted::Row {
             table: name,
@@ -262,10 +256,7 @@ impl Stores {
 
     /// Tells what a statement sees of a table's rows, for which those of the other table were read.
     pub fn tell_all_ahead(&mut self, read: &str, asked: &str, out: &mut Vec<u8>) -> Option<()> {
-        let rows = self
-            .held
-            .rows(self.alloc, &mut self.cache, read, false)
-            .ok()?;
+        let rows = self.held.rows(self.alloc, read, false).ok()?;
         let mut given = Given::new(rows);
         let wanted = Wanted::Rows { table: read };
         tell_ahead(

@@ -8,7 +8,7 @@ use drda_disk::MemDisk;
 use half_store::Layout::{self, One, Two};
 use paged_tables::PagedTables;
 use recovery::{PreparedUnit, Replay, ReplayError, replay};
-use row_pages::PageCache;
+use row_pages::{PageCache, Pager};
 use std::alloc::{AllocError, Global};
 use unit_journal::{Kind, Record};
 use xa_manager::Decision;
@@ -226,9 +226,9 @@ fn signs(alloc: Global, units: &[PreparedUnit]) -> Result<String, AllocError> {
 fn row_count(alloc: Global, store: &PagedTables) -> Option<usize>
     requires { LieInside 0 store.now.tables }
 {
-    let mut cache = PageCache::new(alloc, 1).ok()?;
-    let mut disk = MemDisk::new(alloc, 0).ok()?;
-    let rows = store.rows(alloc, &mut cache, &mut disk, "T").ok()?;
+    let cache = PageCache::new(alloc, 1).ok()?;
+    let mut pager = Pager::over(MemDisk::new(alloc, 0).ok()?, cache);
+    let rows = store.rows(alloc, &mut pager, "T").ok()?;
     Some(rows.len())
 }
 

@@ -1,16 +1,19 @@
 -- Pages that are kept, and what a disk reads.
-use Rattle.std.proofs.Common.{◌≡◌, ◌⊎◌, ℕ, ◌+◌, ◌≤◌, true, cond, List, [], ◌∷◌, Option, Some, None, Contains, refl, sym, ap, subst, inl, inr, take, arith, rules}
+use Rattle.std.proofs.Common.{◌≡◌, ◌⊎◌, ℕ, ◌+◌, ◌≤◌, true, cond, List, ◌∷◌, Option, Some, None, Err, Contains, refl, sym, ap, subst, inl, inr, arith}
 use Rattle.std.specs.Prelude.{nat_eq, is_some, IsSome}
 use Rattle.std.specs.Option.{option_map_or}
 use Rattle.std.specs.Cmp.{nat_eq_equiv}
 use Rattle.std.specs.Map.{lookup, lookup_entry, remove_entry}
 use Rattle.std.proofs.lemmas.Bool.{eqb-true}
 use Rattle.drda_words.specs.Place.{part}
-use Rattle.drda_disk.proofs.Parts.{part_before}
+use Rattle.drda_disk.specs.Disk.{Torn}
+use Rattle.drda_disk.proofs.Parts.{part_outside}
 use Rattle.lru.specs.LruCache.{LruCache, promoted, put_entries}
 use Rattle.lru.proofs.CallerLemmas.{Contains-promoted, Contains-put_entries, Contains-lookup, Contains-lookup_entry, lookup-put_entries}
 use Rattle.row_pages.specs.Page.{IsPage, Page}
-use Rattle.row_pages.specs.Keeping.{AreRead, BeginUpTo, Kept}
+use Rattle.row_pages.specs.Keeping.{AreRead, BeginWithin, CountsPageFault, Kept, TellsDamage}
+use Rattle.row_pages.specs.declared.kept.PageFault.{PageFault}
+use Rattle.row_pages.specs.declared.kept.PageFault.TheVariants.{NoMemory, DeviceFailed, Damaged}
 
 pub promoted_read : (at : ℕ) (kept : Kept) (file : List ℕ) → AreRead kept file → AreRead (promoted (nat_eq at) kept) file
 promoted_read at kept file read = record { each = λ e found. read.each e (Contains-promoted (nat_eq at) kept e found) }
@@ -46,26 +49,40 @@ put_there cache at page = is_there (lookup (nat_eq at) (put_entries nat_eq cache
 
 -- ---- where pages begin
 
-pub none_begins : (last : ℕ) (kept : Kept) → kept ≡ [] → BeginUpTo last kept
-none_begins last kept none = subst (BeginUpTo last) (sym none) (record { each = λ e there. absurd (search rules) })
+pub begin_wider : (first last earlier later : ℕ) (kept : Kept) → BeginWithin first last kept → earlier ≤ first → last ≤ later → BeginWithin earlier later kept
+begin_wider first last earlier later kept begin low high = record { each = λ e there. let up = begin.each e there in (omega (arith, up.0, low), omega (arith, up.1, high)) }
 
-pub begin_later : (last later : ℕ) (kept : Kept) → BeginUpTo last kept → last ≤ later → BeginUpTo later kept
-begin_later last later kept begin more = record { each = λ e there. let up = begin.each e there in omega (arith, up, more) }
+pub promoted_begin : (at first last : ℕ) (kept : Kept) → BeginWithin first last kept → BeginWithin first last (promoted (nat_eq at) kept)
+promoted_begin at first last kept begin = record { each = λ e found. begin.each e (Contains-promoted (nat_eq at) kept e found) }
 
-pub promoted_begin : (at last : ℕ) (kept : Kept) → BeginUpTo last kept → BeginUpTo last (promoted (nat_eq at) kept)
-promoted_begin at last kept begin = record { each = λ e found. begin.each e (Contains-promoted (nat_eq at) kept e found) }
-
-pub put_begins : (cache : LruCache ℕ Page) (at : ℕ) (page : Page) (last later : ℕ) → BeginUpTo last cache.entries → last ≤ later → at ≤ later → BeginUpTo later (put_entries nat_eq cache at page)
-put_begins cache at page last later begin more here = record { each = λ e found. by_cases e (Contains-put_entries nat_eq cache at page e found) }
+pub put_begins : (cache : LruCache ℕ Page) (at : ℕ) (page : Page) (first last earlier later : ℕ) → BeginWithin first last cache.entries → earlier ≤ first → earlier ≤ at → last ≤ later → at ≤ later
+    → BeginWithin earlier later (put_entries nat_eq cache at page)
+put_begins cache at page first last earlier later begin low here_low high here_high = record { each = λ e found. by_cases e (Contains-put_entries nat_eq cache at page e found) }
   where
-    by_cases : (e : ℕ × Page) → Contains cache.entries e ⊎ ((e.1 ≡ page) × ((e.0 ≡ at) ⊎ ((w : Page) × Contains cache.entries (e.0, w) × (nat_eq at e.0 ≡ true)))) → e.0 ≤ later
-    by_cases e (inl was) = let up = begin.each e was in omega (arith, up, more)
-    by_cases e (inr (same, inl place)) = omega (arith, place, here)
-    by_cases e (inr (same, inr (w, there, equal))) = let up = begin.each (e.0, w) there in omega (arith, up, more)
+    by_cases : (e : ℕ × Page) → Contains cache.entries e ⊎ ((e.1 ≡ page) × ((e.0 ≡ at) ⊎ ((w : Page) × Contains cache.entries (e.0, w) × (nat_eq at e.0 ≡ true)))) → (earlier ≤ e.0) × (e.0 ≤ later)
+    by_cases e (inl was) = let up = begin.each e was in (omega (arith, up.0, low), omega (arith, up.1, high))
+    by_cases e (inr (same, inl place)) = (omega (arith, place, here_low), omega (arith, place, here_high))
+    by_cases e (inr (same, inr (w, there, equal))) = let up = begin.each (e.0, w) there in (omega (arith, up.0, low), omega (arith, up.1, high))
 
--- pages in front of an offset stay what is read while the bytes there stay
-pub front_read : (last end : ℕ) (kept : Kept) (old new : List ℕ) → BeginUpTo last kept → last + 8192 ≤ end → take end new ≡ take end old → AreRead kept old → AreRead kept new
-front_read last end kept old new begin inside same read = record {
+-- pages apart from a range stay what is read while that range alone is torn
+pub apart_read : (first last at n : ℕ) (kept : Kept) (old new : List ℕ) → BeginWithin first last kept → (at + n ≤ first) ⊎ (last + 8192 ≤ at) → Torn at n old new → AreRead kept old → AreRead kept new
+apart_read first last at n kept old new begin apart torn read = record {
   each = λ e there. let up = begin.each e there in
-      subst (IsPage e.1) (sym (part_before old new end e.0 8192 same (omega (arith, up, inside)))) (read.each e there);
+      subst (IsPage e.1) (sym (part_outside at n e.0 8192 old new torn (away e up apart))) (read.each e there);
 }
+  where
+    away : (e : ℕ × Page) → (first ≤ e.0) × (e.0 ≤ last) → (at + n ≤ first) ⊎ (last + 8192 ≤ at) → (e.0 + 8192 ≤ at) ⊎ (at + n ≤ e.0)
+    away e up (inl low) = inr (omega (arith, low, up.0))
+    away e up (inr high) = inl (omega (arith, high, up.1))
+
+-- ---- why there is no page
+
+pub told_on : (T U : Type 0) (bytes : List ℕ) (fault : PageFault) → TellsDamage {T = T} bytes (Err fault) → TellsDamage {T = U} bytes (Err fault)
+told_on T U bytes NoMemory told = tt
+told_on T U bytes DeviceFailed told = tt
+told_on T U bytes Damaged told = told
+
+pub counted_on : (T U : Type 0) (fault : PageFault) (old new : ℕ) → CountsPageFault {T = T} (Err fault) old new → CountsPageFault {T = U} (Err fault) old new
+counted_on T U NoMemory old new counts = counts
+counted_on T U DeviceFailed old new counts = counts
+counted_on T U Damaged old new counts = counts

@@ -36,9 +36,9 @@ Kept = List (ℕ × Page)
 pub record AreRead (kept : Kept) (file : List ℕ) : Type 0 where
   pub each : (e : ℕ × Page) → Contains kept e → IsPage e.1 (part file e.0 8192)
 
--- no page kept begins behind an offset
-pub record BeginUpTo (last : ℕ) (kept : Kept) : Type 0 where
-  pub each : (e : ℕ × Page) → Contains kept e → e.0 ≤ last
+-- no page kept begins in front of one offset, or behind another
+pub record BeginWithin (first last : ℕ) (kept : Kept) : Type 0 where
+  pub each : (e : ℕ × Page) → Contains kept e → (first ≤ e.0) × (e.0 ≤ last)
 
 -- the fault of a read, as one of a page
 abbrev pub fault_of : ReadFault → PageFault

@@ -4,5 +4,4 @@ pub mod Parsing
 pub mod Walk
 pub mod Filling
 pub mod Keeping
-pub mod Lending
 pub mod Laying

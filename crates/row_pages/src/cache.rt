@@ -1,13 +1,11 @@
 //! Pages of a disk that are kept in memory.
 
-ghost use Rattle.std.specs.Prelude.{◌≡◌, ◌⊎◌, ◌≤◌, ◌<◌, ◌+◌, ℕ, List, [], true, IsTrue, IsSome, IfOk, IfErr, OnOk, length, nat_eq, take};
-ghost use Rattle.std.specs.Borrow.{sem};
+ghost use Rattle.std.specs.Prelude.{◌≡◌, ◌⊎◌, ◌≤◌, ◌<◌, ◌+◌, ℕ, List, [], true, IsTrue, IsSome, IfOk, IfErr, OnOk, length, nat_eq};
 ghost use Rattle.std.specs.Map.{lookup};
 ghost use Rattle.drda_words.specs.Place.{part};
-ghost use Rattle.drda_disk.specs.Disk.{Stays};
+ghost use Rattle.drda_disk.specs.Disk.{Stays, Torn};
 ghost use Rattle.row_pages.specs.Page.{IsPage};
 ghost use Rattle.row_pages.specs.Keeping.{AreRead, CountsPageFault, TellsDamage};
-ghost use Rattle.row_pages.specs.Lending.{EndsAs};
 ghost use Rattle.row_pages.specs.declared.kept.PageFault.TheVariants.{NoMemory};
 
 use crate::kept::{KeptPage, PageFault, read_page};
@@ -21,24 +19,25 @@ use std::num::NonZeroUsize;
 /// Pages by the offsets at which they were read, so many at most; the one that was asked for
 /// longest ago goes first. Contracts see it as the list of them.
 ///
-/// It does not see what is written to the disk. So each page kept is what the disk reads
-/// (`AreRead`) only as long as nothing is written to those places; `clear` keeps none, and
-/// `keep_front` those in front of what is written.
+/// It does not see what is written to the disk: a `Pager` tells it, so that each page kept is what
+/// that disk reads (`AreRead`).
 #[derive(Drop)]
 pub struct PageCache {
     pages: LruCache<usize, KeptPage>,
-    /// No page that is kept begins behind this offset.
+    /// No page that is kept begins in front of this offset,
+    first: usize,
+    /// and none behind this one.
     last: usize,
 }
 
 impl Model for PageCache {
-    ghost use Rattle.row_pages.specs.Keeping.{BeginUpTo, Kept};
+    ghost use Rattle.row_pages.specs.Keeping.{BeginWithin, Kept};
 
     ghost Value = { Kept };
 
     ghost view = { λ c. c.pages.entries };
 
-    ghost invariant = { λ c. BeginUpTo c.last c.pages.entries };
+    ghost invariant = { λ c. BeginWithin c.first c.last c.pages.entries };
 }
 
 impl PageCache {
@@ -53,53 +52,39 @@ impl PageCache {
         };
         Ok(PageCache {
             pages: LruCache::new(alloc, most)?,
+            first: usize::MAX,
             last: 0,
         })
     }
 
     /// Keeps no page from now on. Takes no memory.
-    pub fn clear(&mut self)
+    pub(crate) fn clear(&mut self)
         ensures { self.new ≡ [] }
     {
         self.pages.clear();
+        self.first = usize::MAX;
         self.last = 0;
     }
 
-    /// Something is written to the disk, from this offset on. All pages are kept, which stand in front of
-    /// it; none is, where one that was asked for since the last `clear` reaches behind it. Which of the two
-    /// comes is tested, and no clause says it. Takes no memory.
-    pub fn keep_front(&mut self, end: usize)
+    /// Something is written to so many bytes of the disk, from this offset on. All pages are kept, where
+    /// these bytes lie in front of all that were asked for since the last `clear`, or behind them; else none
+    /// is. Which of the two comes is tested, and no clause says it. Takes no memory.
+    pub(crate) fn keep_apart(&mut self, at: usize, len: usize)
         ensures all_or_none { (self.new ≡ self.old) ⊎ (self.new ≡ []) }
-        ensures read { (old new : List ℕ) → take end new ≡ take end old → AreRead self.old old → AreRead self.new new }
+        ensures read { (old new : List ℕ) → Torn at len old new → AreRead self.old old → AreRead self.new new }
     {
-        if end < PAGE_BYTES || self.last > end - PAGE_BYTES {
+        if !lies_apart(self.first, self.last, at, len) {
             self.clear();
         }
     }
 
-    /// The page at an offset of the disk, as the disk reads now where each page kept is so; it is
-    /// read where it is not kept. The range lies inside the disk. `Damaged` is told only where the
-    /// bytes there are no page, and then and at every other fault the pages that were kept still
-    /// are.
-    pub fn page<'s, D: Disk>(
-        &'s mut self,
+    /// Keeps the page at an offset, as the one that was asked for last. It is read where it is not kept.
+    pub(crate) fn fetch<D: Disk>(
+        &mut self,
         alloc: Global,
         disk: &mut D,
         at: usize,
-    ) -> Result<&'s KeptPage, PageFault>
-        requires { at + 8192 ≤ length (D.life disk.old).seen }
-        ensures* after { sem 𝓛 (EndsAs self.entry (λ kept. IsTrue D.is_modelled → AreRead self.old (D.life disk.old).seen → AreRead kept (D.life disk.new).seen)) }
-        ensures page { IsTrue D.is_modelled → AreRead self.old (D.life disk.old).seen → IfOk result (λ page. IsPage page.now (part (D.life disk.old).seen at 8192)) }
-        ensures damaged { IsTrue D.is_modelled → TellsDamage (part (D.life disk.old).seen at 8192) result }
-        ensures stays { Stays (D.life disk.old) (D.life disk.new) }
-        ensures faults { CountsPageFault result (D.life disk.old).faults (D.life disk.new).faults }
-    {
-        self.fetch(alloc, disk, at)?;
-        Ok(self.kept(at))
-    }
-
-    // Keeps the page at an offset, as the one that was asked for last.
-    fn fetch<D: Disk>(&mut self, alloc: Global, disk: &mut D, at: usize) -> Result<(), PageFault>
+    ) -> Result<(), PageFault>
         requires { at + 8192 ≤ length (D.life disk.old).seen }
         ensures kept { IsTrue D.is_modelled → AreRead self.old (D.life disk.old).seen → AreRead self.new (D.life disk.new).seen }
         ensures there { OnOk result (IsSome (lookup (nat_eq at) self.new)) }
@@ -128,6 +113,7 @@ impl PageCache {
         ensures there { OnOk result (IsSome (lookup (nat_eq at) self.new)) }
         ensures fault { IfErr result (λ fault. fault ≡ NoMemory) }
     {
+        self.first = earlier_of(self.first, at);
         self.last = later_of(self.last, at);
         match self.pages.put(at, page) {
             Ok(_) => Ok(()),
@@ -135,8 +121,8 @@ impl PageCache {
         }
     }
 
-    // The page that is kept at an offset.
-    fn kept(&self, at: usize) -> &KeptPage
+    /// The page that is kept at an offset.
+    pub(crate) fn kept(&self, at: usize) -> &KeptPage
         requires { IsSome (lookup (nat_eq at) self.now) }
         ensures { (file : List ℕ) → AreRead self.now file → IsPage result.now (part file at 8192) }
     {
@@ -145,6 +131,24 @@ impl PageCache {
             None => unreachable!(),
         }
     }
+}
+
+// Whether so many bytes from an offset on lie in front of all pages that begin within two others, or behind them.
+fn lies_apart(first: usize, last: usize, at: usize, len: usize) -> bool
+    ensures { IsTrue result → (at + len ≤ first) ⊎ (last + 8192 ≤ at) }
+{
+    if at >= PAGE_BYTES && last <= at - PAGE_BYTES {
+        return true;
+    }
+    len <= first && at <= first - len
+}
+
+// The earlier of two offsets.
+fn earlier_of(first: usize, second: usize) -> usize
+    ensures first { result ≤ first }
+    ensures second { result ≤ second }
+{
+    if first < second { first } else { second }
 }
 
 // The later of two offsets.

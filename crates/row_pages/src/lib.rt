@@ -7,6 +7,7 @@ mod kept;
 mod laws;
 mod laying;
 mod page;
+mod pager;
 mod rows;
 
 pub use builder::{PageBuilder, Pushed};
@@ -15,4 +16,5 @@ pub use kept::{KeptPage, PageFault, read_page};
 pub use laws::{one_laying, one_page};
 pub use laying::PageCount;
 pub use page::{Damaged, PAGE_BYTES, PageKind, PageRef};
+pub use pager::Pager;
 pub use rows::RowIter;

@@ -1,38 +1,60 @@
 //! Pages that are read from a disk, and kept.
 
 use crate::pages::{filled, number};
-use drda_disk::{Disk, MemDisk};
-use row_pages::{KeptPage, PageCache, PageFault, PageKind};
+use drda_disk::{Disk, FuseDisk, MemDisk};
+use row_pages::{KeptPage, PageFault, PageKind, Pager};
 use std::alloc::{AllocError, Global};
 
-/// Writes a page of rows of these lengths at an offset, where the disk has room for it.
-pub fn write_page(alloc: Global, disk: &mut MemDisk, asked: &str) -> Result<(), AllocError> {
-    let (at, lengths) = asked.split_once(' ').unwrap_or((asked, ""));
-    let at = number(at);
-    let (page, _) = filled(alloc, PageKind::Rows, lengths)?;
-    if at <= disk.size() && page.len() <= disk.size() - at {
-        let _ = disk.write_at(at, &page);
+/// A disk that counts its calls, with the pages of it that are kept.
+pub type Counted = Pager<FuseDisk<MemDisk>>;
+
+// Writes bytes at an offset, where the disk has room for them.
+fn write(pager: &mut Counted, at: usize, bytes: &[u8]) {
+    if at <= pager.size() && bytes.len() <= pager.size() - at {
+        let _ = pager.write_at(at, bytes);
     }
+}
+
+/// Writes a page of rows of these lengths at an offset, where the disk has room for it.
+pub fn write_page(alloc: Global, pager: &mut Counted, asked: &str) -> Result<(), AllocError> {
+    let (at, lengths) = asked.split_once(' ').unwrap_or((asked, ""));
+    let (page, _) = filled(alloc, PageKind::Rows, lengths)?;
+    write(pager, number(at), &page);
     Ok(())
 }
 
-/// Tells of the page at an offset how many rows it has, the length of the first one, and how many of them are found by their places.
+/// Writes a byte at an offset, which a page may have or not.
+pub fn write_byte(pager: &mut Counted, at: &str) {
+    write(pager, number(at), &[0]);
+}
+
+/// Tells of the page at an offset how many rows it has, the length of the first one, and how many of them are found by their places; and
+/// whether it was read, or kept.
 pub fn tell_at(
     alloc: Global,
-    cache: &mut PageCache,
-    disk: &mut MemDisk,
+    pager: &mut Counted,
     at: &str,
     out: &mut String,
 ) -> Result<(), AllocError> {
     let at = number(at);
-    if at > disk.size() || disk.size() - at < 8_192 {
+    if at > pager.size() || pager.size() - at < 8_192 {
         return Ok(());
     }
-    match cache.page(alloc, disk, at) {
-        Ok(page) => tell_kept(page, out),
-        Err(PageFault::NoMemory) => Err(AllocError),
-        Err(fault) => writeln!(out, "  {fault:?}"),
+    let calls = pager.disk().calls();
+    match pager.page(alloc, at) {
+        Ok(page) => tell_kept(page, out)?,
+        Err(PageFault::NoMemory) => return Err(AllocError),
+        Err(fault) => return writeln!(out, "  {fault:?}"),
     }
+    writeln!(
+        out,
+        "  {}",
+        if pager.disk().calls() == calls {
+            "kept"
+        } else {
+            "read"
+        }
+    )
 }
 
 fn tell_kept(page: &KeptPage, out: &mut String) -> Result<(), AllocError> {

@@ -5,10 +5,10 @@
 mod kept;
 mod pages;
 
-use crate::kept::{tell_at, write_page};
-use crate::pages::{number, tell_bytes, tell_changed, tell_laid, tell_page};
-use drda_disk::MemDisk;
-use row_pages::PageCache;
+use crate::kept::{Counted, tell_at, write_byte, write_page};
+use crate::pages::{tell_bytes, tell_changed, tell_laid, tell_page};
+use drda_disk::{FuseDisk, MemDisk};
+use row_pages::{PageCache, Pager};
 use std::alloc::{AllocError, Global};
 use std::io::{self, Write};
 
@@ -21,13 +21,14 @@ fn main(rt: HostRuntime) -> io::Result<()> {
     out.flush()
 }
 
-// Writes each line down, and what it comes to, over one disk and a cache of one page.
+// Writes each line down, and what it comes to, over one disk of which two pages are kept.
 fn follow(alloc: Global, text: &str, out: &mut String) -> Result<(), AllocError> {
-    let mut disk = MemDisk::new(alloc, 16_384)?;
-    let mut cache = PageCache::new(alloc, 1)?;
+    let cache = PageCache::new(alloc, 2)?;
+    let disk = FuseDisk::new(MemDisk::new(alloc, 32_768)?, u64::MAX, false);
+    let mut pager = Pager::over(disk, cache);
     let mut done = Ok(());
     for line in text.lines() {
-        done = answer(alloc, line, &mut disk, &mut cache, out);
+        done = answer(alloc, line, &mut pager, out);
         if done.is_err() {
             break;
         }
@@ -39,8 +40,7 @@ fn follow(alloc: Global, text: &str, out: &mut String) -> Result<(), AllocError>
 fn answer(
     alloc: Global,
     line: &str,
-    disk: &mut MemDisk,
-    cache: &mut PageCache,
+    pager: &mut Counted,
     out: &mut String,
 ) -> Result<(), AllocError> {
     writeln!(out, "{line}")?;
@@ -50,14 +50,14 @@ fn answer(
         "bytes" => tell_bytes(alloc, rest, out),
         "changed" => tell_changed(alloc, rest, out),
         "lay" => tell_laid(alloc, rest, out),
-        "write" => write_page(alloc, disk, rest),
-        "at" => tell_at(alloc, cache, disk, rest, out),
-        "clear" => {
-            cache.clear();
+        "write" => write_page(alloc, pager, rest),
+        "at" => tell_at(alloc, pager, rest, out),
+        "forget" => {
+            pager.forget();
             Ok(())
         }
-        "front" => {
-            cache.keep_front(number(rest));
+        "byte" => {
+            write_byte(pager, rest);
             Ok(())
         }
         _ => Ok(()),

@@ -2,7 +2,6 @@
 ghost use Rattle.std.specs.Prelude.{◌≡◌, ◌+◌, ◌*◌, ◌<◌, ◌≤◌, ◌^◌, true, false, IsTrue, Err, length};
 ghost use Rattle.drda_words.specs.Place.{part};
 ghost use Rattle.drda_disk.specs.Disk.{Stays};
-ghost use Rattle.row_pages.specs.Keeping.{AreRead};
 ghost use Rattle.row_pages.specs.Laying.{HasSome};
 ghost use Rattle.store_check.specs.Errors.{CountsCheck};
 ghost use Rattle.store_check.specs.Formed.{IsFormed, TellsWhether};
@@ -13,7 +12,7 @@ use crate::CheckError;
 use crate::half::pages_at;
 use drda_disk::Disk;
 use half_store::Active;
-use row_pages::{KeptPage, PAGE_BYTES, PageCache, PageFault, PageKind, one_page};
+use row_pages::{KeptPage, PAGE_BYTES, PageFault, PageKind, Pager, one_page};
 use std::alloc::Global;
 
 /// The kind of the page with a number.
@@ -51,19 +50,17 @@ fn has_rows_of(page: &KeptPage, kind: PageKind) -> bool
 /// Whether the page at an offset is one of a kind and has rows.
 fn is_formed<D: Disk>(
     alloc: Global,
-    cache: &mut PageCache,
-    disk: &mut D,
+    pager: &mut Pager<D>,
     at: usize,
     kind: PageKind,
 ) -> Result<bool, CheckError>
-    requires { at + 8192 ≤ length (D.life disk.old).seen }
-    ensures told { IsTrue D.is_modelled → AreRead cache.old (D.life disk.old).seen → TellsWhether (IsFormed kind (part (D.life disk.old).seen at 8192)) result }
-    ensures kept { IsTrue D.is_modelled → AreRead cache.old (D.life disk.old).seen → AreRead cache.new (D.life disk.new).seen }
-    ensures stays { Stays (D.life disk.old) (D.life disk.new) }
-    ensures cause { CountsCheck result (D.life disk.old).faults (D.life disk.new).faults }
+    requires { at + 8192 ≤ length (D.life pager.old).seen }
+    ensures told { IsTrue D.is_modelled → TellsWhether (IsFormed kind (part (D.life pager.old).seen at 8192)) result }
+    ensures stays { Stays (D.life pager.old) (D.life pager.new) }
+    ensures cause { CountsCheck result (D.life pager.old).faults (D.life pager.new).faults }
 {
     one_page();
-    match cache.page(alloc, disk, at) {
+    match pager.page(alloc, at) {
         Ok(page) => Ok(has_rows_of(page, kind)),
         Err(PageFault::Damaged) => Ok(false),
         Err(PageFault::NoMemory) => Err(CheckError::NoMemory),
@@ -75,23 +72,21 @@ fn is_formed<D: Disk>(
 /// of its place's kind.
 fn has_form<D: Disk>(
     alloc: Global,
-    cache: &mut PageCache,
-    disk: &mut D,
+    pager: &mut Pager<D>,
     active: &Active,
     page: usize,
 ) -> Result<bool, CheckError>
     requires pages { 8192 * active.now.pages ≤ active.now.region.at }
     requires small { active.now.region.at ≤ 2 ^ 40 }
-    requires inside { active.now.region.at ≤ length (D.life disk.old).seen }
+    requires inside { active.now.region.at ≤ length (D.life pager.old).seen }
     requires page { page < active.now.pages }
-    ensures told { IsTrue D.is_modelled → AreRead cache.old (D.life disk.old).seen → TellsWhether (HasForm (D.life disk.old).seen (pages_of active.now) page) result }
-    ensures kept { IsTrue D.is_modelled → AreRead cache.old (D.life disk.old).seen → AreRead cache.new (D.life disk.new).seen }
-    ensures stays { Stays (D.life disk.old) (D.life disk.new) }
-    ensures cause { CountsCheck result (D.life disk.old).faults (D.life disk.new).faults }
+    ensures told { IsTrue D.is_modelled → TellsWhether (HasForm (D.life pager.old).seen (pages_of active.now) page) result }
+    ensures stays { Stays (D.life pager.old) (D.life pager.new) }
+    ensures cause { CountsCheck result (D.life pager.old).faults (D.life pager.new).faults }
 {
     let at = place_of(active, page);
     if page < active.first_catalogue as usize + active.catalogue_pages as usize {
-        is_formed(alloc, cache, disk, at, kind_of(active, page))
+        is_formed(alloc, pager, at, kind_of(active, page))
     } else {
         Ok(false)
     }
@@ -100,20 +95,18 @@ fn has_form<D: Disk>(
 /// Where the first page of a half without its form lies, if one is.
 fn first_without_form<D: Disk>(
     alloc: Global,
-    cache: &mut PageCache,
-    disk: &mut D,
+    pager: &mut Pager<D>,
     active: &Active,
 ) -> Result<Option<usize>, CheckError>
     requires pages { 8192 * active.now.pages ≤ active.now.region.at }
     requires small { active.now.region.at ≤ 2 ^ 40 }
-    requires inside { active.now.region.at ≤ length (D.life disk.old).seen }
-    ensures told { IsTrue D.is_modelled → AreRead cache.old (D.life disk.old).seen → ChecksForm (D.life disk.old).seen (pages_of active.now) result }
-    ensures kept { IsTrue D.is_modelled → AreRead cache.old (D.life disk.old).seen → AreRead cache.new (D.life disk.new).seen }
-    ensures stays { Stays (D.life disk.old) (D.life disk.new) }
-    ensures cause { CountsCheck result (D.life disk.old).faults (D.life disk.new).faults }
+    requires inside { active.now.region.at ≤ length (D.life pager.old).seen }
+    ensures told { IsTrue D.is_modelled → ChecksForm (D.life pager.old).seen (pages_of active.now) result }
+    ensures stays { Stays (D.life pager.old) (D.life pager.new) }
+    ensures cause { CountsCheck result (D.life pager.old).faults (D.life pager.new).faults }
 {
     for page in 0..active.pages as usize {
-        if !has_form(alloc, cache, disk, active, page)? {
+        if !has_form(alloc, pager, active, page)? {
             return Ok(Some(place_of(active, page)));
         }
     }
@@ -134,20 +127,18 @@ fn first_of(first: Option<usize>, found: usize) -> CheckError
 /// the first page without its form, if one is.
 pub(crate) fn first_damage<D: Disk>(
     alloc: Global,
-    cache: &mut PageCache,
-    disk: &mut D,
+    pager: &mut Pager<D>,
     active: &Active,
     found: usize,
 ) -> CheckError
     requires pages { 8192 * active.now.pages ≤ active.now.region.at }
     requires small { active.now.region.at ≤ 2 ^ 40 }
-    requires inside { active.now.region.at ≤ length (D.life disk.old).seen }
-    ensures told { IsTrue D.is_modelled → AreRead cache.old (D.life disk.old).seen → TellsFirst (D.life disk.old).seen (pages_of active.now) found result }
-    ensures kept { IsTrue D.is_modelled → AreRead cache.old (D.life disk.old).seen → AreRead cache.new (D.life disk.new).seen }
-    ensures stays { Stays (D.life disk.old) (D.life disk.new) }
-    ensures cause { CountsCheck {T = Unit {0}} (Err result) (D.life disk.old).faults (D.life disk.new).faults }
+    requires inside { active.now.region.at ≤ length (D.life pager.old).seen }
+    ensures told { IsTrue D.is_modelled → TellsFirst (D.life pager.old).seen (pages_of active.now) found result }
+    ensures stays { Stays (D.life pager.old) (D.life pager.new) }
+    ensures cause { CountsCheck {T = Unit {0}} (Err result) (D.life pager.old).faults (D.life pager.new).faults }
 {
-    match first_without_form(alloc, cache, disk, active) {
+    match first_without_form(alloc, pager, active) {
         Ok(first) => first_of(first, found),
         Err(error) => error,
     }

@@ -2,7 +2,6 @@
 ghost use Rattle.std.specs.Prelude.{◌≡◌, ◌+◌, ◌*◌, ◌^◌, ◌≤◌, ◌++◌, ◌∷◌, [], ℕ, List, true, IsTrue, IfErr, OnOk, IfOk, length, map};
 ghost use Rattle.std.specs.List.{AllByRecursion};
 ghost use Rattle.drda_disk.specs.Disk.{Stays};
-ghost use Rattle.row_pages.specs.Keeping.{AreRead};
 ghost use Rattle.row_pages.specs.Laying.{rows_over};
 ghost use Rattle.checkpoint_writer.specs.Catalogue.{entry_of};
 ghost use Rattle.store_check.specs.Errors.{CountsCheck};
@@ -18,7 +17,7 @@ use crate::{CheckError, KeysBySchema, check_catalogue, check_table};
 use checkpoint_writer::StoredTable;
 use drda_disk::Disk;
 use half_store::Active;
-use row_pages::{PAGE_BYTES, PageCache};
+use row_pages::{PAGE_BYTES, Pager};
 use std::alloc::Global;
 use table_map::NotedPages;
 
@@ -41,19 +40,17 @@ pub(crate) fn pages_at(active: &Active) -> usize
 /// The tables of a half's catalogue, which are its last pages.
 fn listed_tables<D: Disk>(
     alloc: Global,
-    cache: &mut PageCache,
-    disk: &mut D,
+    pager: &mut Pager<D>,
     active: &Active,
 ) -> Result<Vec<StoredTable>, CheckError>
     requires pages { 8192 * active.now.pages ≤ active.now.region.at }
     requires small { active.now.region.at ≤ 2 ^ 40 }
-    requires inside { active.now.region.at ≤ length (D.life disk.old).seen }
-    ensures told { IsTrue D.is_modelled → AreRead cache.old (D.life disk.old).seen → ListsHalf (D.life disk.old).seen (pages_of active.now) result }
+    requires inside { active.now.region.at ≤ length (D.life pager.old).seen }
+    ensures told { IsTrue D.is_modelled → ListsHalf (D.life pager.old).seen (pages_of active.now) result }
     ensures last { OnOk result (catalogue_end (pages_of active.now) ≡ active.now.pages) }
     ensures listed { IfOk result (λ tables. are_listed active.now.first_catalogue (map entry_of tables.items) ≡ true) }
-    ensures kept { IsTrue D.is_modelled → AreRead cache.old (D.life disk.old).seen → AreRead cache.new (D.life disk.new).seen }
-    ensures stays { Stays (D.life disk.old) (D.life disk.new) }
-    ensures cause { CountsCheck result (D.life disk.old).faults (D.life disk.new).faults }
+    ensures stays { Stays (D.life pager.old) (D.life pager.new) }
+    ensures cause { CountsCheck result (D.life pager.old).faults (D.life pager.new).faults }
 {
     let at = pages_at(active);
     let count = active.pages as usize;
@@ -63,37 +60,34 @@ fn listed_tables<D: Disk>(
         let at = at + PAGE_BYTES * count.min(first + pages);
         return Err(CheckError::Damaged { at });
     }
-    check_catalogue(alloc, cache, disk, at + PAGE_BYTES * first, pages, first)
+    check_catalogue(alloc, pager, at + PAGE_BYTES * first, pages, first)
 }
 
 /// Checks the pages of a table of a half whose first page lies at an offset.
 fn check_stored<K: KeysBySchema, D: Disk>(
     alloc: Global,
     keys: &K,
-    cache: &mut PageCache,
-    disk: &mut D,
+    pager: &mut Pager<D>,
     at: usize,
     table: &StoredTable,
 ) -> Result<NotedPages, CheckError>
     requires small { at + 8192 * (table.now.first_page + table.now.pages) ≤ 2 ^ 40 }
-    requires inside { at + 8192 * (table.now.first_page + table.now.pages) ≤ length (D.life disk.old).seen }
+    requires inside { at + 8192 * (table.now.first_page + table.now.pages) ≤ length (D.life pager.old).seen }
     ensures at { IfOk result (λ pages. pages.pages.at ≡ page_at at table.now.first_page) }
     ensures count { IfOk result (λ pages. length pages.pages.keys ≡ table.now.pages) }
-    ensures told { IsTrue D.is_modelled → AreRead cache.old (D.life disk.old).seen → ChecksTable table.now.schema (K.key_of keys.now table.now.schema) (D.life disk.old).seen (page_at at table.now.first_page) table.now.pages (places_in result) }
-    ensures rows { (pages : List (List (List ℕ))) → IsTrue D.is_modelled → AreRead cache.old (D.life disk.old).seen → IsWhole table.now.schema (K.key_of keys.now table.now.schema) (D.life disk.old).seen (page_at at table.now.first_page) table.now.pages pages
+    ensures told { IsTrue D.is_modelled → ChecksTable table.now.schema (K.key_of keys.now table.now.schema) (D.life pager.old).seen (page_at at table.now.first_page) table.now.pages (places_in result) }
+    ensures rows { (pages : List (List (List ℕ))) → IsTrue D.is_modelled → IsWhole table.now.schema (K.key_of keys.now table.now.schema) (D.life pager.old).seen (page_at at table.now.first_page) table.now.pages pages
         → IfOk result (λ table. table.rows.listed.value ≡ rows_over pages) }
     ensures good { IfOk result (λ checked. AreRows table.now.schema (K.key_of keys.now table.now.schema) checked.rows.listed.value) }
-    ensures kept { IsTrue D.is_modelled → AreRead cache.old (D.life disk.old).seen → AreRead cache.new (D.life disk.new).seen }
-    ensures stays { Stays (D.life disk.old) (D.life disk.new) }
-    ensures cause { CountsCheck result (D.life disk.old).faults (D.life disk.new).faults }
+    ensures stays { Stays (D.life pager.old) (D.life pager.new) }
+    ensures cause { CountsCheck result (D.life pager.old).faults (D.life pager.new).faults }
 {
     let schema = &table.schema;
     check_table(
         alloc,
         &KeysOf { keys, schema },
         schema,
-        cache,
-        disk,
+        pager,
         at + PAGE_BYTES * table.first_page as usize,
         table.pages as usize,
     )
@@ -115,28 +109,26 @@ fn push_table(list: &mut Vec<CheckedTable>, table: CheckedTable) -> Result<(), C
 fn check_rows<K: KeysBySchema, D: Disk>(
     alloc: Global,
     keys: &K,
-    cache: &mut PageCache,
-    disk: &mut D,
+    pager: &mut Pager<D>,
     at: usize,
     first: usize,
     tables: Vec<StoredTable>,
 ) -> Result<Vec<CheckedTable>, CheckError>
     requires listed { are_listed first (map entry_of tables.items) ≡ true }
     requires small { at + 8192 * first ≤ 2 ^ 40 }
-    requires inside { at + 8192 * first ≤ length (D.life disk.old).seen }
+    requires inside { at + 8192 * first ≤ length (D.life pager.old).seen }
     ensures inside { IfOk result (λ checked. AllByRecursion (LiesBelow (page_at at first)) checked.items) }
     ensures behind { IfOk result (λ checked. AllByRecursion (LiesBehind at) checked.items) }
     ensures good { IfOk result (λ checked. AllByRecursion (NotesTable (K.key_of keys.now)) checked.items) }
     ensures same { IfOk result (λ checked. map entry_in checked.items ≡ map entry_of tables.items) }
-    ensures told { IsTrue D.is_modelled → AreRead cache.old (D.life disk.old).seen → ChecksRows (K.key_of keys.now) (D.life disk.old).seen at first (map entry_of tables.items) result }
-    ensures kept { IsTrue D.is_modelled → AreRead cache.old (D.life disk.old).seen → AreRead cache.new (D.life disk.new).seen }
-    ensures stays { Stays (D.life disk.old) (D.life disk.new) }
-    ensures cause { CountsCheck result (D.life disk.old).faults (D.life disk.new).faults }
+    ensures told { IsTrue D.is_modelled → ChecksRows (K.key_of keys.now) (D.life pager.old).seen at first (map entry_of tables.items) result }
+    ensures stays { Stays (D.life pager.old) (D.life pager.new) }
+    ensures cause { CountsCheck result (D.life pager.old).faults (D.life pager.new).faults }
 {
     let mut checked = Vec::new(alloc);
     let mut next = 0;
     for table in tables {
-        let pages = check_stored(alloc, keys, cache, disk, at, &table)?;
+        let pages = check_stored(alloc, keys, pager, at, &table)?;
         next += table.pages as usize;
         push_table(&mut checked, CheckedTable { table, pages })?;
     }
@@ -154,26 +146,24 @@ fn check_rows<K: KeysBySchema, D: Disk>(
 fn check_meaning<K: KeysBySchema, D: Disk>(
     alloc: Global,
     keys: &K,
-    cache: &mut PageCache,
-    disk: &mut D,
+    pager: &mut Pager<D>,
     active: &Active,
 ) -> Result<Vec<CheckedTable>, CheckError>
     requires pages { 8192 * active.now.pages ≤ active.now.region.at }
     requires small { active.now.region.at ≤ 2 ^ 40 }
-    requires inside { active.now.region.at ≤ length (D.life disk.old).seen }
+    requires inside { active.now.region.at ≤ length (D.life pager.old).seen }
     ensures inside { IfOk result (λ checked. AllByRecursion (LiesBelow active.now.region.at) checked.items) }
     ensures behind { IfOk result (λ checked. AllByRecursion (LiesBehind (pages_of active.now).at) checked.items) }
     ensures good { IfOk result (λ checked. AllByRecursion (NotesTable (K.key_of keys.now)) checked.items) }
     ensures listed { IfOk result (λ checked. are_listed active.now.first_catalogue (map entry_in checked.items) ≡ true) }
-    ensures told { IsTrue D.is_modelled → AreRead cache.old (D.life disk.old).seen → ChecksMeaning (K.key_of keys.now) (D.life disk.old).seen (pages_of active.now) result }
-    ensures kept { IsTrue D.is_modelled → AreRead cache.old (D.life disk.old).seen → AreRead cache.new (D.life disk.new).seen }
-    ensures stays { Stays (D.life disk.old) (D.life disk.new) }
-    ensures cause { CountsCheck result (D.life disk.old).faults (D.life disk.new).faults }
+    ensures told { IsTrue D.is_modelled → ChecksMeaning (K.key_of keys.now) (D.life pager.old).seen (pages_of active.now) result }
+    ensures stays { Stays (D.life pager.old) (D.life pager.new) }
+    ensures cause { CountsCheck result (D.life pager.old).faults (D.life pager.new).faults }
 {
-    let tables = listed_tables(alloc, cache, disk, active)?;
+    let tables = listed_tables(alloc, pager, active)?;
     let at = pages_at(active);
     let first = active.first_catalogue as usize;
-    check_rows(alloc, keys, cache, disk, at, first, tables)
+    check_rows(alloc, keys, pager, at, first, tables)
 }
 
 /// Checks all pages of the active half of a store: its last ones are those of a catalogue
@@ -190,25 +180,23 @@ fn check_meaning<K: KeysBySchema, D: Disk>(
 pub fn check_half<K: KeysBySchema, D: Disk>(
     alloc: Global,
     keys: &K,
-    cache: &mut PageCache,
-    disk: &mut D,
+    pager: &mut Pager<D>,
     active: &Active,
 ) -> Result<Vec<CheckedTable>, CheckError>
     requires pages { 8192 * active.now.pages ≤ active.now.region.at }
     requires small { active.now.region.at ≤ 2 ^ 40 }
-    requires inside { active.now.region.at ≤ length (D.life disk.old).seen }
+    requires inside { active.now.region.at ≤ length (D.life pager.old).seen }
     ensures inside { IfOk result (λ checked. AllByRecursion (LiesBelow active.now.region.at) checked.items) }
     ensures behind { IfOk result (λ checked. AllByRecursion (LiesBehind (pages_of active.now).at) checked.items) }
     ensures good { IfOk result (λ checked. AllByRecursion (NotesTable (K.key_of keys.now)) checked.items) }
     ensures listed { IfOk result (λ checked. are_listed active.now.first_catalogue (map entry_in checked.items) ≡ true) }
-    ensures told { IsTrue D.is_modelled → AreRead cache.old (D.life disk.old).seen → ChecksHalf (K.key_of keys.now) (D.life disk.old).seen (pages_of active.now) result }
-    ensures kept { IsTrue D.is_modelled → AreRead cache.old (D.life disk.old).seen → AreRead cache.new (D.life disk.new).seen }
-    ensures stays { Stays (D.life disk.old) (D.life disk.new) }
-    ensures cause { CountsCheck result (D.life disk.old).faults (D.life disk.new).faults }
+    ensures told { IsTrue D.is_modelled → ChecksHalf (K.key_of keys.now) (D.life pager.old).seen (pages_of active.now) result }
+    ensures stays { Stays (D.life pager.old) (D.life pager.new) }
+    ensures cause { CountsCheck result (D.life pager.old).faults (D.life pager.new).faults }
 {
-    match check_meaning(alloc, keys, cache, disk, active) {
+    match check_meaning(alloc, keys, pager, active) {
         Ok(checked) => Ok(checked),
-        Err(CheckError::Damaged { at }) => Err(first_damage(alloc, cache, disk, active, at)),
+        Err(CheckError::Damaged { at }) => Err(first_damage(alloc, pager, active, at)),
         Err(CheckError::NoMemory) => Err(CheckError::NoMemory),
         Err(CheckError::DeviceFailed) => Err(CheckError::DeviceFailed),
     }

@@ -2,7 +2,6 @@
 ghost use Rattle.std.specs.Prelude.{◌≡◌, ◌+◌, ◌*◌, ◌^◌, ◌<◌, ◌≤◌, ◌++◌, ℕ, List, true, IsTrue, OnOk, IfOk, IfErr, length, map};
 ghost use Rattle.drda_words.specs.Place.{part};
 ghost use Rattle.drda_disk.specs.Disk.{Stays};
-ghost use Rattle.row_pages.specs.Keeping.{AreRead};
 ghost use Rattle.checkpoint_writer.specs.Catalogue.{entry_of};
 ghost use Rattle.store_check.specs.Errors.{CountsCheck, catalogue_error};
 ghost use Rattle.store_check.specs.Listed.{ChecksCatalogue, are_listed, first_page_of, is_before, lie_from, names_rise};
@@ -12,7 +11,7 @@ ghost use Rattle.store_check.specs.declared.errors.CheckError.TheVariants.{NoMem
 use crate::CheckError;
 use checkpoint_writer::{CatalogueError, StoredTable, read_catalogue};
 use drda_disk::Disk;
-use row_pages::{PAGE_BYTES, PageCache, one_page};
+use row_pages::{PAGE_BYTES, Pager, one_page};
 use std::alloc::Global;
 use std::cmp::Ordering;
 
@@ -107,23 +106,21 @@ fn push_all(tables: &mut Vec<StoredTable>, more: Vec<StoredTable>) -> Result<(),
 /// are those of a catalogue, or the page is damaged; so is one without tables.
 fn add_page<D: Disk>(
     alloc: Global,
-    cache: &mut PageCache,
-    disk: &mut D,
+    pager: &mut Pager<D>,
     at: usize,
     last: usize,
     tables: &mut Vec<StoredTable>,
 ) -> Result<(), CheckError>
     requires small { at + 8192 ≤ 2 ^ 40 }
     requires last { last < 2 ^ 40 }
-    requires inside { at + 8192 ≤ length (D.life disk.old).seen }
-    ensures told { IsTrue D.is_modelled → AreRead cache.old (D.life disk.old).seen → JudgesEntries (part (D.life disk.old).seen at 8192) at last tables.old.items result tables.new.items }
+    requires inside { at + 8192 ≤ length (D.life pager.old).seen }
+    ensures told { IsTrue D.is_modelled → JudgesEntries (part (D.life pager.old).seen at 8192) at last tables.old.items result tables.new.items }
     ensures listed { OnOk result (are_listed last (map entry_of tables.new.items) ≡ true) }
-    ensures kept { IsTrue D.is_modelled → AreRead cache.old (D.life disk.old).seen → AreRead cache.new (D.life disk.new).seen }
-    ensures stays { Stays (D.life disk.old) (D.life disk.new) }
-    ensures cause { CountsCheck result (D.life disk.old).faults (D.life disk.new).faults }
+    ensures stays { Stays (D.life pager.old) (D.life pager.new) }
+    ensures cause { CountsCheck result (D.life pager.old).faults (D.life pager.new).faults }
 {
     one_page();
-    let found = match read_catalogue(alloc, cache, disk, at, 1) {
+    let found = match read_catalogue(alloc, pager, at, 1) {
         Ok(found) => found,
         Err(error) => return Err(check_error(error)),
     };
@@ -148,31 +145,22 @@ fn add_page<D: Disk>(
 /// they are not. Nothing is written.
 pub fn check_catalogue<D: Disk>(
     alloc: Global,
-    cache: &mut PageCache,
-    disk: &mut D,
+    pager: &mut Pager<D>,
     at: usize,
     count: usize,
     last: usize,
 ) -> Result<Vec<StoredTable>, CheckError>
     requires small { at + 8192 * count ≤ 2 ^ 40 }
     requires last { last < 2 ^ 40 }
-    requires inside { at + 8192 * count ≤ length (D.life disk.old).seen }
-    ensures told { IsTrue D.is_modelled → AreRead cache.old (D.life disk.old).seen → ChecksCatalogue (D.life disk.old).seen at count last result }
+    requires inside { at + 8192 * count ≤ length (D.life pager.old).seen }
+    ensures told { IsTrue D.is_modelled → ChecksCatalogue (D.life pager.old).seen at count last result }
     ensures listed { IfOk result (λ tables. are_listed last (map entry_of tables.items) ≡ true) }
-    ensures kept { IsTrue D.is_modelled → AreRead cache.old (D.life disk.old).seen → AreRead cache.new (D.life disk.new).seen }
-    ensures stays { Stays (D.life disk.old) (D.life disk.new) }
-    ensures cause { CountsCheck result (D.life disk.old).faults (D.life disk.new).faults }
+    ensures stays { Stays (D.life pager.old) (D.life pager.new) }
+    ensures cause { CountsCheck result (D.life pager.old).faults (D.life pager.new).faults }
 {
     let mut tables = Vec::new(alloc);
     for page in 0..count {
-        add_page(
-            alloc,
-            cache,
-            disk,
-            at + PAGE_BYTES * page,
-            last,
-            &mut tables,
-        )?;
+        add_page(alloc, pager, at + PAGE_BYTES * page, last, &mut tables)?;
     }
     Ok(tables)
 }

@@ -4,7 +4,6 @@ ghost use Rattle.std.specs.List.{AllByRecursion};
 ghost use Rattle.drda_words.specs.Bytes.{AreBytes};
 ghost use Rattle.drda_words.specs.Place.{part};
 ghost use Rattle.drda_disk.specs.Disk.{Stays};
-ghost use Rattle.row_pages.specs.Keeping.{AreRead};
 ghost use Rattle.row_pages.specs.Page.{IsPage};
 ghost use Rattle.store_check.specs.Errors.{CountsCheck};
 ghost use Rattle.table_map.specs.Keyed.{copied};
@@ -14,7 +13,7 @@ use crate::CheckError;
 use crate::errors::error_at;
 use crate::rows::{are_rows, first_in};
 use drda_disk::Disk;
-use row_pages::{KeptPage, PageCache, PageKind, one_page};
+use row_pages::{KeptPage, PageKind, Pager, one_page};
 use row_values::Schema;
 use std::alloc::Global;
 use table_map::{NotedRows, RowKeys};
@@ -56,23 +55,21 @@ pub(crate) fn check_page<K: RowKeys, D: Disk>(
     alloc: Global,
     keys: &K,
     schema: &Schema,
-    cache: &mut PageCache,
-    disk: &mut D,
+    pager: &mut Pager<D>,
     at: usize,
     last: &mut Option<Vec<u8>>,
     noted: &mut NotedRows,
 ) -> Result<Vec<u8>, CheckError>
-    requires { at + 8192 ≤ length (D.life disk.old).seen }
-    ensures judged { IsTrue D.is_modelled → AreRead cache.old (D.life disk.old).seen → JudgesBytes schema.now (K.key_of keys.now) at (part (D.life disk.old).seen at 8192) last.old result last.new }
-    ensures noted { (rows : List (List ℕ)) → IsTrue D.is_modelled → AreRead cache.old (D.life disk.old).seen → IsPage (record { kind = PageKind.Rows; rows = rows }) (part (D.life disk.old).seen at 8192)
+    requires { at + 8192 ≤ length (D.life pager.old).seen }
+    ensures judged { IsTrue D.is_modelled → JudgesBytes schema.now (K.key_of keys.now) at (part (D.life pager.old).seen at 8192) last.old result last.new }
+    ensures noted { (rows : List (List ℕ)) → IsTrue D.is_modelled → IsPage (record { kind = PageKind.Rows; rows = rows }) (part (D.life pager.old).seen at 8192)
         → OnOk result (noted.new.listed.value ≡ noted.old.listed.value ++ rows) }
     ensures goes { OnOk result (NotesRows schema.now (K.key_of keys.now) (copied last.old) (copied last.new) noted.old.listed.value noted.new.listed.value) }
-    ensures kept { IsTrue D.is_modelled → AreRead cache.old (D.life disk.old).seen → AreRead cache.new (D.life disk.new).seen }
-    ensures stays { Stays (D.life disk.old) (D.life disk.new) }
-    ensures cause { CountsCheck result (D.life disk.old).faults (D.life disk.new).faults }
+    ensures stays { Stays (D.life pager.old) (D.life pager.new) }
+    ensures cause { CountsCheck result (D.life pager.old).faults (D.life pager.new).faults }
 {
     one_page();
-    match cache.page(alloc, disk, at) {
+    match pager.page(alloc, at) {
         Ok(page) => judge(alloc, keys, schema, page, at, last, noted),
         Err(fault) => Err(error_at(at, fault)),
     }

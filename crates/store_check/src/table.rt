@@ -1,7 +1,6 @@
 //! All pages of a table.
 ghost use Rattle.std.specs.Prelude.{◌≡◌, ◌+◌, ◌*◌, ◌^◌, ◌≤◌, ◌++◌, ◌∷◌, [], ℕ, List, IsTrue, IfErr, IfOk, OnOk, length};
 ghost use Rattle.drda_disk.specs.Disk.{Stays};
-ghost use Rattle.row_pages.specs.Keeping.{AreRead};
 ghost use Rattle.row_pages.specs.Laying.{rows_over};
 ghost use Rattle.store_check.specs.Errors.{CountsCheck};
 ghost use Rattle.store_check.specs.Whole.{AreRows, ChecksTable, IsWhole, places_in};
@@ -10,7 +9,7 @@ ghost use Rattle.store_check.specs.declared.errors.CheckError.TheVariants.{NoMem
 use crate::CheckError;
 use crate::page::check_page;
 use drda_disk::Disk;
-use row_pages::{PAGE_BYTES, PageCache, one_page};
+use row_pages::{PAGE_BYTES, Pager, one_page};
 use row_values::Schema;
 use std::alloc::Global;
 use table_map::{NotedPages, NotedRows, RowKeys, TablePages};
@@ -39,22 +38,20 @@ pub fn check_table<K: RowKeys, D: Disk>(
     alloc: Global,
     keys: &K,
     schema: &Schema,
-    cache: &mut PageCache,
-    disk: &mut D,
+    pager: &mut Pager<D>,
     at: usize,
     count: usize,
 ) -> Result<NotedPages, CheckError>
     requires small { at + 8192 * count ≤ 2 ^ 40 }
-    requires inside { at + 8192 * count ≤ length (D.life disk.old).seen }
+    requires inside { at + 8192 * count ≤ length (D.life pager.old).seen }
     ensures at { IfOk result (λ table. table.pages.at ≡ at) }
     ensures count { IfOk result (λ table. length table.pages.keys ≡ count) }
-    ensures told { IsTrue D.is_modelled → AreRead cache.old (D.life disk.old).seen → ChecksTable schema.now (K.key_of keys.now) (D.life disk.old).seen at count (places_in result) }
-    ensures rows { (pages : List (List (List ℕ))) → IsTrue D.is_modelled → AreRead cache.old (D.life disk.old).seen → IsWhole schema.now (K.key_of keys.now) (D.life disk.old).seen at count pages
+    ensures told { IsTrue D.is_modelled → ChecksTable schema.now (K.key_of keys.now) (D.life pager.old).seen at count (places_in result) }
+    ensures rows { (pages : List (List (List ℕ))) → IsTrue D.is_modelled → IsWhole schema.now (K.key_of keys.now) (D.life pager.old).seen at count pages
         → IfOk result (λ table. table.rows.listed.value ≡ rows_over pages) }
     ensures good { IfOk result (λ table. AreRows schema.now (K.key_of keys.now) table.rows.listed.value) }
-    ensures kept { IsTrue D.is_modelled → AreRead cache.old (D.life disk.old).seen → AreRead cache.new (D.life disk.new).seen }
-    ensures stays { Stays (D.life disk.old) (D.life disk.new) }
-    ensures cause { CountsCheck result (D.life disk.old).faults (D.life disk.new).faults }
+    ensures stays { Stays (D.life pager.old) (D.life pager.new) }
+    ensures cause { CountsCheck result (D.life pager.old).faults (D.life pager.new).faults }
 {
     one_page();
     let mut first_keys = Vec::new(alloc);
@@ -62,7 +59,7 @@ pub fn check_table<K: RowKeys, D: Disk>(
     let mut rows = NotedRows::none();
     for page in 0..count {
         let here = at + PAGE_BYTES * page;
-        let key = check_page(alloc, keys, schema, cache, disk, here, &mut last, &mut rows)?;
+        let key = check_page(alloc, keys, schema, pager, here, &mut last, &mut rows)?;
         push_bytes(&mut first_keys, key)?;
     }
     let pages = TablePages::new(at, first_keys);

@@ -4,7 +4,7 @@ use crate::first_column::FirstColumn;
 use crate::pages::{DISK_BYTES, TABLE_AT};
 use drda_disk::{Disk, Region};
 use half_store::{Active, Half, Layout};
-use row_pages::PageCache;
+use row_pages::Pager;
 use row_values::Schema;
 use std::alloc::Global;
 use store_check::{CheckError, check_catalogue, check_half, check_table};
@@ -15,17 +15,16 @@ use tables::Rows;
 pub fn rows_of<D: Disk>(
     alloc: Global,
     schema: &Schema,
-    cache: &mut PageCache,
-    disk: &mut D,
+    pager: &mut Pager<D>,
     count: usize,
 ) -> Result<usize, CheckError> {
-    if disk.size() < DISK_BYTES || count > 4 {
+    if pager.size() < DISK_BYTES || count > 4 {
         return Err(CheckError::DeviceFailed);
     }
-    let checked = check_table(alloc, &FirstColumn, schema, cache, disk, TABLE_AT, count)?;
+    let checked = check_table(alloc, &FirstColumn, schema, pager, TABLE_AT, count)?;
     let table = TableMap::new(alloc, checked.pages);
     let mut rows = Rows::new(alloc);
-    match table.scan_into(alloc, &FirstColumn, cache, disk, &mut rows) {
+    match table.scan_into(alloc, &FirstColumn, pager, &mut rows) {
         Ok(()) => Ok(rows.len()),
         Err(_) => Err(CheckError::DeviceFailed),
     }
@@ -34,26 +33,24 @@ pub fn rows_of<D: Disk>(
 /// How many tables the catalogue of so many pages has, in a half with five pages for rows.
 pub fn tables_of<D: Disk>(
     alloc: Global,
-    cache: &mut PageCache,
-    disk: &mut D,
+    pager: &mut Pager<D>,
     count: usize,
 ) -> Result<usize, CheckError> {
-    if disk.size() < DISK_BYTES || count > 4 {
+    if pager.size() < DISK_BYTES || count > 4 {
         return Err(CheckError::DeviceFailed);
     }
-    let tables = check_catalogue(alloc, cache, disk, TABLE_AT, count, 5)?;
+    let tables = check_catalogue(alloc, pager, TABLE_AT, count, 5)?;
     Ok(tables.len())
 }
 
 /// How many tables a half of so many pages has, and how many pages these have; the catalogue has so many, from this one on.
 pub fn half_of<D: Disk>(
     alloc: Global,
-    cache: &mut PageCache,
-    disk: &mut D,
+    pager: &mut Pager<D>,
     pages: u32,
     (first_catalogue, catalogue_pages): (u32, u32),
 ) -> Result<(usize, u32), CheckError> {
-    if disk.size() < DISK_BYTES || pages > 6 {
+    if pager.size() < DISK_BYTES || pages > 6 {
         return Err(CheckError::DeviceFailed);
     }
     let active = Active {
@@ -69,7 +66,7 @@ pub fn half_of<D: Disk>(
             length: 8_192,
         },
     };
-    let tables = check_half(alloc, &FirstColumn, cache, disk, &active)?;
+    let tables = check_half(alloc, &FirstColumn, pager, &active)?;
     let mut of_tables = 0u32;
     for checked in &tables {
         of_tables = of_tables.saturating_add(checked.table.pages);

@@ -2,7 +2,7 @@
 
 use crate::checks::{half_of, rows_of, tables_of};
 use drda_disk::{Disk, FuseDisk, MemDisk};
-use row_pages::{PageBuilder, PageCache, PageKind};
+use row_pages::{PageBuilder, PageCache, PageKind, Pager};
 use row_values::Schema;
 use std::alloc::{AllocError, Global};
 use test_bytes::bytes_of;
@@ -95,20 +95,20 @@ impl Pages {
         let (count, place) = number_in(asked);
         let (first, catalogue) = number_in(place);
         let (catalogue, _) = number_in(catalogue);
-        let mut disk = FuseDisk::new(self.disk.copy(self.alloc)?, self.calls, false);
-        let mut cache = PageCache::new(self.alloc, 2)?;
-        let (alloc, cache, disk) = (self.alloc, &mut cache, &mut disk);
+        let disk = FuseDisk::new(self.disk.copy(self.alloc)?, self.calls, false);
+        let cache = PageCache::new(self.alloc, 2)?;
+        let (alloc, pager) = (self.alloc, &mut Pager::over(disk, cache));
         match verb {
             "table" => {
-                let told = rows_of(alloc, &self.schema, cache, disk, count as usize);
+                let told = rows_of(alloc, &self.schema, pager, count as usize);
                 writeln!(out, "  {told:?}")
             }
             "listed" => {
-                let told = tables_of(alloc, cache, disk, count as usize);
+                let told = tables_of(alloc, pager, count as usize);
                 writeln!(out, "  {told:?}")
             }
             _ => {
-                let told = half_of(alloc, cache, disk, count, (first, catalogue));
+                let told = half_of(alloc, pager, count, (first, catalogue));
                 writeln!(out, "  {told:?}")
             }
         }
@@ -122,8 +122,9 @@ impl Pages {
         for place in from..to {
             let mut disk = self.disk.copy(self.alloc)?;
             put(&mut disk, place as usize, &[1]);
-            let mut cache = PageCache::new(self.alloc, 2)?;
-            let told = rows_of(self.alloc, &self.schema, &mut cache, &mut disk, 3);
+            let cache = PageCache::new(self.alloc, 2)?;
+            let mut pager = Pager::over(disk, cache);
+            let told = rows_of(self.alloc, &self.schema, &mut pager, 3);
             if last != Some(told) {
                 writeln!(out, "  from {place} on: {told:?}")?;
                 last = Some(told);

@@ -3,7 +3,7 @@ ghost use Rattle.std.specs.Prelude.{◌≡◌, ◌+◌, ◌*◌, ◌^◌, ◌≤
 ghost use Rattle.drda_words.specs.Place.{part};
 ghost use Rattle.drda_disk.specs.Disk.{Stays};
 ghost use Rattle.row_pages.specs.Page.{IsPage};
-ghost use Rattle.row_pages.specs.Keeping.{AreRead, CountsPageFault};
+ghost use Rattle.row_pages.specs.Keeping.{CountsPageFault};
 ghost use Rattle.row_pages.specs.declared.kept.PageFault.TheVariants.{NoMemory};
 ghost use Rattle.table_map.specs.Damage.{DamagedWhere, HasNoRows, SomePage};
 ghost use Rattle.table_map.specs.Keyed.{copied, first_key, first_keys, first_of};
@@ -11,7 +11,7 @@ ghost use Rattle.table_map.specs.Stored.{AreAt};
 
 use crate::{RowKeys, TablePages};
 use drda_disk::Disk;
-use row_pages::{KeptPage, PAGE_BYTES, PageCache, PageFault, PageKind};
+use row_pages::{KeptPage, PAGE_BYTES, PageFault, PageKind, Pager};
 use std::alloc::{AllocError, Global};
 
 /// The key of the first row of a page, if it has one.
@@ -33,19 +33,17 @@ fn first_in<K: RowKeys>(
 fn first_key_at<K: RowKeys, D: Disk>(
     alloc: Global,
     keys: &K,
-    cache: &mut PageCache,
-    disk: &mut D,
+    pager: &mut Pager<D>,
     at: usize,
 ) -> Result<Vec<u8>, PageFault>
-    requires { at + 8192 ≤ length (D.life disk.old).seen }
-    ensures key { (rows : List (List ℕ)) → IsTrue D.is_modelled → AreRead cache.old (D.life disk.old).seen → IsPage (record { kind = PageKind.Rows; rows = rows }) (part (D.life disk.old).seen at 8192)
+    requires { at + 8192 ≤ length (D.life pager.old).seen }
+    ensures key { (rows : List (List ℕ)) → IsTrue D.is_modelled → IsPage (record { kind = PageKind.Rows; rows = rows }) (part (D.life pager.old).seen at 8192)
         → IfOk result (λ key. key.items ≡ first_key (K.key_of keys.now) rows) }
-    ensures damaged { IsTrue D.is_modelled → AreRead cache.old (D.life disk.old).seen → DamagedWhere (HasNoRows (part (D.life disk.old).seen at 8192)) result }
-    ensures kept { IsTrue D.is_modelled → AreRead cache.old (D.life disk.old).seen → AreRead cache.new (D.life disk.new).seen }
-    ensures stays { Stays (D.life disk.old) (D.life disk.new) }
-    ensures cause { CountsPageFault result (D.life disk.old).faults (D.life disk.new).faults }
+    ensures damaged { IsTrue D.is_modelled → DamagedWhere (HasNoRows (part (D.life pager.old).seen at 8192)) result }
+    ensures stays { Stays (D.life pager.old) (D.life pager.new) }
+    ensures cause { CountsPageFault result (D.life pager.old).faults (D.life pager.new).faults }
 {
-    let page = cache.page(alloc, disk, at)?;
+    let page = pager.page(alloc, at)?;
     match first_in(alloc, keys, page) {
         Ok(Some(key)) => Ok(key),
         Ok(None) => Err(PageFault::Damaged),
@@ -71,25 +69,23 @@ impl TablePages {
     pub fn open<K: RowKeys, D: Disk>(
         alloc: Global,
         keys: &K,
-        cache: &mut PageCache,
-        disk: &mut D,
+        pager: &mut Pager<D>,
         at: usize,
         count: usize,
     ) -> Result<TablePages, PageFault>
         requires small { at + 8192 * count ≤ 2 ^ 40 }
-        requires inside { at + 8192 * count ≤ length (D.life disk.old).seen }
+        requires inside { at + 8192 * count ≤ length (D.life pager.old).seen }
         ensures at { IfOk result (λ pages. pages.at ≡ at) }
-        ensures keys { (pages : List (List (List ℕ))) → IsTrue D.is_modelled → AreRead cache.old (D.life disk.old).seen → AreAt (D.life disk.old).seen at pages → length pages ≡ count
+        ensures keys { (pages : List (List (List ℕ))) → IsTrue D.is_modelled → AreAt (D.life pager.old).seen at pages → length pages ≡ count
             → IfOk result (λ opened. opened.keys ≡ first_keys (K.key_of keys.now) pages) }
-        ensures damaged { IsTrue D.is_modelled → AreRead cache.old (D.life disk.old).seen → DamagedWhere (SomePage HasNoRows (D.life disk.old).seen at count) result }
+        ensures damaged { IsTrue D.is_modelled → DamagedWhere (SomePage HasNoRows (D.life pager.old).seen at count) result }
         ensures count { IfOk result (λ pages. length pages.keys ≡ count) }
-        ensures kept { IsTrue D.is_modelled → AreRead cache.old (D.life disk.old).seen → AreRead cache.new (D.life disk.new).seen }
-        ensures stays { Stays (D.life disk.old) (D.life disk.new) }
-        ensures cause { CountsPageFault result (D.life disk.old).faults (D.life disk.new).faults }
+        ensures stays { Stays (D.life pager.old) (D.life pager.new) }
+        ensures cause { CountsPageFault result (D.life pager.old).faults (D.life pager.new).faults }
     {
         let mut first_keys = Vec::new(alloc);
         for page in 0..count {
-            let key = first_key_at(alloc, keys, cache, disk, at + PAGE_BYTES * page)?;
+            let key = first_key_at(alloc, keys, pager, at + PAGE_BYTES * page)?;
             push_bytes(&mut first_keys, key)?;
         }
         Ok(TablePages { at, first_keys })

@@ -3,7 +3,7 @@ ghost use Rattle.std.specs.Prelude.{◌≡◌, ◌+◌, ◌≤◌, ◌++◌, ◌
 ghost use Rattle.drda_words.specs.Place.{part};
 ghost use Rattle.drda_disk.specs.Disk.{Stays};
 ghost use Rattle.row_pages.specs.Page.{IsPage};
-ghost use Rattle.row_pages.specs.Keeping.{AreRead, CountsPageFault};
+ghost use Rattle.row_pages.specs.Keeping.{CountsPageFault};
 ghost use Rattle.row_pages.specs.declared.kept.PageFault.TheVariants.{NoMemory};
 ghost use Rattle.key_map.specs.Merging.{InOrder, merged};
 ghost use Rattle.key_map.specs.Overlay.{change_of};
@@ -15,7 +15,7 @@ use crate::RowKeys;
 use crate::changes::ChangesLeft;
 use drda_disk::Disk;
 use key_map::laws::changes_and_rows_in_turn;
-use row_pages::{KeptPage, PageCache, PageFault, PageKind};
+use row_pages::{KeptPage, PageFault, PageKind, Pager};
 use std::alloc::{AllocError, Global};
 use std::cmp::Ordering;
 use tables::Rows;
@@ -70,21 +70,19 @@ fn push_page<K: RowKeys>(
 pub(crate) fn scan_page<K: RowKeys, D: Disk>(
     alloc: Global,
     keys: &K,
-    cache: &mut PageCache,
-    disk: &mut D,
+    pager: &mut Pager<D>,
     at: usize,
     changes: &mut ChangesLeft<'_>,
     rows: &mut Rows,
 ) -> Result<(), PageFault>
-    requires { at + 8192 ≤ length (D.life disk.old).seen }
-    ensures rows { (page : List (List ℕ)) → IsTrue D.is_modelled → AreRead cache.old (D.life disk.old).seen → IsPage (record { kind = PageKind.Rows; rows = page }) (part (D.life disk.old).seen at 8192)
+    requires { at + 8192 ≤ length (D.life pager.old).seen }
+    ensures rows { (page : List (List ℕ)) → IsTrue D.is_modelled → IsPage (record { kind = PageKind.Rows; rows = page }) (part (D.life pager.old).seen at 8192)
         → OnOk result (Passes (K.key_of keys.now) page changes.old changes.new rows.old rows.new) }
-    ensures damaged { IsTrue D.is_modelled → AreRead cache.old (D.life disk.old).seen → DamagedWhere (HasNoRows (part (D.life disk.old).seen at 8192)) result }
-    ensures kept { IsTrue D.is_modelled → AreRead cache.old (D.life disk.old).seen → AreRead cache.new (D.life disk.new).seen }
-    ensures stays { Stays (D.life disk.old) (D.life disk.new) }
-    ensures cause { CountsPageFault result (D.life disk.old).faults (D.life disk.new).faults }
+    ensures damaged { IsTrue D.is_modelled → DamagedWhere (HasNoRows (part (D.life pager.old).seen at 8192)) result }
+    ensures stays { Stays (D.life pager.old) (D.life pager.new) }
+    ensures cause { CountsPageFault result (D.life pager.old).faults (D.life pager.new).faults }
 {
-    let page = cache.page(alloc, disk, at)?;
+    let page = pager.page(alloc, at)?;
     if page.len() == 0 {
         return Err(PageFault::Damaged);
     }

@@ -4,7 +4,7 @@ ghost use Rattle.drda_words.specs.Place.{part};
 ghost use Rattle.drda_disk.specs.Disk.{Stays};
 ghost use Rattle.row_pages.specs.Page.{IsPage};
 ghost use Rattle.row_pages.specs.Laying.{rows_over};
-ghost use Rattle.row_pages.specs.Keeping.{AreRead, CountsPageFault, TellsDamage};
+ghost use Rattle.row_pages.specs.Keeping.{CountsPageFault, TellsDamage};
 ghost use Rattle.key_map.specs.Merging.{InOrder, row_at};
 ghost use Rattle.table_map.specs.Damage.{DamagedWhere, LacksPage};
 ghost use Rattle.table_map.specs.Keyed.{keyed_rows, copied};
@@ -14,7 +14,7 @@ use crate::RowKeys;
 use crate::base::RowsLeft;
 use crate::finding::{find_row, place_of};
 use drda_disk::Disk;
-use row_pages::{KeptPage, PAGE_BYTES, PageCache, PageFault, PageKind};
+use row_pages::{KeptPage, PAGE_BYTES, PageFault, PageKind, Pager};
 use std::alloc::{AllocError, Global};
 use std::marker::Model;
 
@@ -55,20 +55,18 @@ fn copy_found<K: RowKeys>(
 fn row_in_page<K: RowKeys, D: Disk>(
     alloc: Global,
     keys: &K,
-    cache: &mut PageCache,
-    disk: &mut D,
+    pager: &mut Pager<D>,
     at: usize,
     key: &[u8],
 ) -> Result<Option<Vec<u8>>, PageFault>
-    requires { at + 8192 ≤ length (D.life disk.old).seen }
-    ensures found { (rows : List (List ℕ)) → IsTrue D.is_modelled → AreRead cache.old (D.life disk.old).seen → IsPage (record { kind = PageKind.Rows; rows = rows }) (part (D.life disk.old).seen at 8192)
+    requires { at + 8192 ≤ length (D.life pager.old).seen }
+    ensures found { (rows : List (List ℕ)) → IsTrue D.is_modelled → IsPage (record { kind = PageKind.Rows; rows = rows }) (part (D.life pager.old).seen at 8192)
         → InOrder (keyed_rows (K.key_of keys.now) rows) → IfOk result (λ row. copied row ≡ row_at key.now (keyed_rows (K.key_of keys.now) rows)) }
-    ensures damaged { IsTrue D.is_modelled → TellsDamage (part (D.life disk.old).seen at 8192) result }
-    ensures kept { IsTrue D.is_modelled → AreRead cache.old (D.life disk.old).seen → AreRead cache.new (D.life disk.new).seen }
-    ensures stays { Stays (D.life disk.old) (D.life disk.new) }
-    ensures cause { CountsPageFault result (D.life disk.old).faults (D.life disk.new).faults }
+    ensures damaged { IsTrue D.is_modelled → TellsDamage (part (D.life pager.old).seen at 8192) result }
+    ensures stays { Stays (D.life pager.old) (D.life pager.new) }
+    ensures cause { CountsPageFault result (D.life pager.old).faults (D.life pager.new).faults }
 {
-    let page = cache.page(alloc, disk, at)?;
+    let page = pager.page(alloc, at)?;
     match copy_found(alloc, keys, page, key) {
         Ok(row) => Ok(row),
         Err(_) => Err(PageFault::NoMemory),
@@ -113,23 +111,21 @@ impl TablePages {
         &self,
         alloc: Global,
         keys: &K,
-        cache: &mut PageCache,
-        disk: &mut D,
+        pager: &mut Pager<D>,
         key: &[u8],
     ) -> Result<Option<Vec<u8>>, PageFault>
-        requires { self.now.at + 8192 * length self.now.keys ≤ length (D.life disk.old).seen }
-        ensures found { (pages : List (List (List ℕ))) → IsTrue D.is_modelled → AreRead cache.old (D.life disk.old).seen → IsStored (K.key_of keys.now) self.now pages (D.life disk.old).seen
+        requires { self.now.at + 8192 * length self.now.keys ≤ length (D.life pager.old).seen }
+        ensures found { (pages : List (List (List ℕ))) → IsTrue D.is_modelled → IsStored (K.key_of keys.now) self.now pages (D.life pager.old).seen
             → IfOk result (λ row. copied row ≡ row_at key.now (keyed_rows (K.key_of keys.now) (rows_over pages))) }
-        ensures damaged { IsTrue D.is_modelled → DamagedWhere (LacksPage key.now self.now (D.life disk.old).seen) result }
-        ensures kept { IsTrue D.is_modelled → AreRead cache.old (D.life disk.old).seen → AreRead cache.new (D.life disk.new).seen }
-        ensures stays { Stays (D.life disk.old) (D.life disk.new) }
-        ensures cause { CountsPageFault result (D.life disk.old).faults (D.life disk.new).faults }
+        ensures damaged { IsTrue D.is_modelled → DamagedWhere (LacksPage key.now self.now (D.life pager.old).seen) result }
+        ensures stays { Stays (D.life pager.old) (D.life pager.new) }
+        ensures cause { CountsPageFault result (D.life pager.old).faults (D.life pager.new).faults }
     {
         let place = place_of(&self.first_keys, key);
         if place == 0 {
             return Ok(None);
         }
         let at = self.at + PAGE_BYTES * (place - 1);
-        row_in_page(alloc, keys, cache, disk, at, key)
+        row_in_page(alloc, keys, pager, at, key)
     }
 }

@@ -3,7 +3,7 @@ ghost use Rattle.std.specs.Prelude.{◌≡◌, ◌+◌, ◌*◌, ◌≤◌, ◌+
 ghost use Rattle.drda_disk.specs.Disk.{Stays};
 ghost use Rattle.std.specs.List.{AllByRecursion};
 ghost use Rattle.row_pages.specs.Laying.{IsShort, counted, laid, pages_with};
-ghost use Rattle.row_pages.specs.Keeping.{AreRead, CountsPageFault};
+ghost use Rattle.row_pages.specs.Keeping.{CountsPageFault};
 ghost use Rattle.table_map.specs.Cursor.{IsLeft};
 ghost use Rattle.table_map.specs.Damage.{DamagedWhere, HasNoRows, SomePage};
 ghost use Rattle.table_map.specs.Stored.{IsStored};
@@ -13,7 +13,7 @@ use crate::changes::ChangesLeft;
 use crate::page_scan::{push_rest, scan_page};
 use crate::{RowCursor, RowKeys, TableMap};
 use drda_disk::Disk;
-use row_pages::{PAGE_BYTES, PageCache, PageCount, PageFault};
+use row_pages::{PAGE_BYTES, PageCount, PageFault, Pager};
 use std::alloc::Global;
 use tables::Rows;
 
@@ -55,17 +55,15 @@ impl TableMap {
         &self,
         alloc: Global,
         keys: &K,
-        cache: &mut PageCache,
-        disk: &mut D,
+        pager: &mut Pager<D>,
         rows: &mut Rows,
     ) -> Result<(), PageFault>
-        requires { self.now.places.at + 8192 * length self.now.places.keys ≤ length (D.life disk.old).seen }
-        ensures rows { (pages : List (List (List ℕ))) → IsTrue D.is_modelled → AreRead cache.old (D.life disk.old).seen → IsStored (K.key_of keys.now) self.now.places pages (D.life disk.old).seen
+        requires { self.now.places.at + 8192 * length self.now.places.keys ≤ length (D.life pager.old).seen }
+        ensures rows { (pages : List (List (List ℕ))) → IsTrue D.is_modelled → IsStored (K.key_of keys.now) self.now.places pages (D.life pager.old).seen
             → OnOk result (rows.new ≡ rows.old ++ without_keys (rows_of_table (K.key_of keys.now) self.now pages)) }
-        ensures damaged { IsTrue D.is_modelled → AreRead cache.old (D.life disk.old).seen → DamagedWhere (SomePage HasNoRows (D.life disk.old).seen self.now.places.at (length self.now.places.keys)) result }
-        ensures kept { IsTrue D.is_modelled → AreRead cache.old (D.life disk.old).seen → AreRead cache.new (D.life disk.new).seen }
-        ensures stays { Stays (D.life disk.old) (D.life disk.new) }
-        ensures cause { CountsPageFault result (D.life disk.old).faults (D.life disk.new).faults }
+        ensures damaged { IsTrue D.is_modelled → DamagedWhere (SomePage HasNoRows (D.life pager.old).seen self.now.places.at (length self.now.places.keys)) result }
+        ensures stays { Stays (D.life pager.old) (D.life pager.new) }
+        ensures cause { CountsPageFault result (D.life pager.old).faults (D.life pager.new).faults }
     {
         let at = self.pages.at();
         let mut changes = ChangesLeft::new(self.overlay.entries());
@@ -73,8 +71,7 @@ impl TableMap {
             scan_page(
                 alloc,
                 keys,
-                cache,
-                disk,
+                pager,
                 at + PAGE_BYTES * page,
                 &mut changes,
                 rows,

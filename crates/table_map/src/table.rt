@@ -2,7 +2,7 @@
 ghost use Rattle.std.specs.Prelude.{◌≡◌, ◌+◌, ◌*◌, ◌<◌, ◌≤◌, ℕ, List, [], IsTrue, Some, None, OnOk, IfErr, IfOk, false, length};
 ghost use Rattle.drda_disk.specs.Disk.{Stays};
 ghost use Rattle.row_pages.specs.Laying.{rows_over};
-ghost use Rattle.row_pages.specs.Keeping.{AreRead, CountsPageFault};
+ghost use Rattle.row_pages.specs.Keeping.{CountsPageFault};
 ghost use Rattle.row_pages.specs.declared.kept.PageFault.TheVariants.{NoMemory};
 ghost use Rattle.key_map.specs.Slots.{HasRoom, by_key};
 ghost use Rattle.key_map.specs.Merging.{InOrder, changed, row_at};
@@ -15,7 +15,7 @@ ghost use Rattle.table_map.specs.Table.{rows_of_table};
 use crate::{RowKeys, TablePages};
 use drda_disk::Disk;
 use key_map::Overlay;
-use row_pages::{PageCache, PageFault};
+use row_pages::{PageFault, Pager};
 use std::alloc::{AllocError, Global};
 use std::marker::Model;
 
@@ -65,22 +65,20 @@ impl TableMap {
         &self,
         alloc: Global,
         keys: &K,
-        cache: &mut PageCache,
-        disk: &mut D,
+        pager: &mut Pager<D>,
         key: &[u8],
     ) -> Result<Option<Vec<u8>>, PageFault>
-        requires { self.now.places.at + 8192 * length self.now.places.keys ≤ length (D.life disk.old).seen }
-        ensures found { (pages : List (List (List ℕ))) → IsTrue D.is_modelled → AreRead cache.old (D.life disk.old).seen → IsStored (K.key_of keys.now) self.now.places pages (D.life disk.old).seen
+        requires { self.now.places.at + 8192 * length self.now.places.keys ≤ length (D.life pager.old).seen }
+        ensures found { (pages : List (List (List ℕ))) → IsTrue D.is_modelled → IsStored (K.key_of keys.now) self.now.places pages (D.life pager.old).seen
             → IfOk result (λ row. copied row ≡ row_at key.now (rows_of_table (K.key_of keys.now) self.now pages)) }
-        ensures damaged { IsTrue D.is_modelled → DamagedWhere ((row_at key.now (changes_of self.now.overlay) ≡ None) × LacksPage key.now self.now.places (D.life disk.old).seen) result }
-        ensures kept { IsTrue D.is_modelled → AreRead cache.old (D.life disk.old).seen → AreRead cache.new (D.life disk.new).seen }
-        ensures stays { Stays (D.life disk.old) (D.life disk.new) }
-        ensures cause { CountsPageFault result (D.life disk.old).faults (D.life disk.new).faults }
+        ensures damaged { IsTrue D.is_modelled → DamagedWhere ((row_at key.now (changes_of self.now.overlay) ≡ None) × LacksPage key.now self.now.places (D.life pager.old).seen) result }
+        ensures stays { Stays (D.life pager.old) (D.life pager.new) }
+        ensures cause { CountsPageFault result (D.life pager.old).faults (D.life pager.new).faults }
     {
         match self.overlay.change(key) {
             Some(Some(row)) => copy_row(alloc, row),
             Some(None) => Ok(None),
-            None => self.pages.row(alloc, keys, cache, disk, key),
+            None => self.pages.row(alloc, keys, pager, key),
         }
     }
 

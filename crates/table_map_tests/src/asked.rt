@@ -4,7 +4,7 @@ ghost use Rattle.std.specs.Prelude.{◌+◌, ◌*◌, ◌≤◌, length};
 use crate::opened::opened;
 use drda_disk::Disk;
 use key_map::row_form;
-use row_pages::{PageCache, PageFault};
+use row_pages::{PageFault, Pager};
 use row_values::Schema;
 use std::alloc::Global;
 use table_map::{SchemaKeys, TableMap};
@@ -25,16 +25,15 @@ fn tell_row<D: Disk>(
     alloc: Global,
     schema: &Schema,
     table: &TableMap,
-    cache: &mut PageCache,
-    disk: &mut D,
+    pager: &mut Pager<D>,
     row: &str,
     out: &mut Vec<u8>,
 ) -> Option<()>
-    requires { table.now.places.at + 8192 * length table.now.places.keys ≤ length (D.life disk.old).seen }
+    requires { table.now.places.at + 8192 * length table.now.places.keys ≤ length (D.life pager.old).seen }
 {
     let row = bytes_of(alloc, &[row]).ok()?;
     let key = row_form(alloc, schema, &row).ok()?;
-    match table.get(alloc, &SchemaKeys { schema }, cache, disk, &key) {
+    match table.get(alloc, &SchemaKeys { schema }, pager, &key) {
         Ok(Some(found)) => tell(alloc, out, "row", &found),
         Ok(None) => say(out, "no row"),
         Err(fault) => say(out, name_of(fault)),
@@ -46,14 +45,13 @@ fn tell_rows<D: Disk>(
     alloc: Global,
     schema: &Schema,
     table: &TableMap,
-    cache: &mut PageCache,
-    disk: &mut D,
+    pager: &mut Pager<D>,
     out: &mut Vec<u8>,
 ) -> Option<()>
-    requires { table.now.places.at + 8192 * length table.now.places.keys ≤ length (D.life disk.old).seen }
+    requires { table.now.places.at + 8192 * length table.now.places.keys ≤ length (D.life pager.old).seen }
 {
     let mut rows = Rows::new(alloc);
-    if let Err(fault) = table.scan_into(alloc, &SchemaKeys { schema }, cache, disk, &mut rows) {
+    if let Err(fault) = table.scan_into(alloc, &SchemaKeys { schema }, pager, &mut rows) {
         return say(out, name_of(fault));
     }
     for i in 0..rows.len() {
@@ -88,19 +86,18 @@ fn tell_count<D: Disk>(
 pub fn tell_asked<D: Disk>(
     alloc: Global,
     schema: &Schema,
-    cache: &mut PageCache,
-    disk: &mut D,
+    pager: &mut Pager<D>,
     pages: usize,
     line: &str,
     out: &mut Vec<u8>,
 ) -> Option<()> {
     let (changes, asked) = line.rsplit_once("; ").unwrap_or(("", line));
     let (verb, row) = asked.split_once(' ').unwrap_or((asked, ""));
-    match opened(alloc, schema, cache, disk, pages, changes) {
+    match opened(alloc, schema, pager, pages, changes) {
         Ok(table) => match verb {
-            "get" => tell_row(alloc, schema, &table, cache, disk, row, out),
-            "rows" => tell_rows(alloc, schema, &table, cache, disk, out),
-            _ => tell_count(alloc, schema, &table, disk, out),
+            "get" => tell_row(alloc, schema, &table, pager, row, out),
+            "rows" => tell_rows(alloc, schema, &table, pager, out),
+            _ => tell_count(alloc, schema, &table, pager, out),
         },
         Err(fault) => say(out, name_of(fault)),
     }

@@ -4,7 +4,7 @@ ghost use Rattle.std.specs.Prelude.{◌≡◌, ◌+◌, ◌*◌, ◌≤◌, IfOk
 use crate::table::{DISK_BYTES, TABLE_AT};
 use drda_disk::Disk;
 use key_map::row_form;
-use row_pages::{PageCache, PageFault};
+use row_pages::{PageFault, Pager};
 use row_values::Schema;
 use std::alloc::{AllocError, Global};
 use table_map::{SchemaKeys, TableMap, TablePages};
@@ -54,17 +54,16 @@ fn make_change(
 pub fn opened<D: Disk>(
     alloc: Global,
     schema: &Schema,
-    cache: &mut PageCache,
-    disk: &mut D,
+    pager: &mut Pager<D>,
     pages: usize,
     changes: &str,
 ) -> Result<TableMap, PageFault>
-    ensures { IfOk result (λ table. table.places.at + 8192 * length table.places.keys ≤ length (D.life disk.new).seen) }
+    ensures { IfOk result (λ table. table.places.at + 8192 * length table.places.keys ≤ length (D.life pager.new).seen) }
 {
-    if pages > 12 || disk.size() < DISK_BYTES {
+    if pages > 12 || pager.size() < DISK_BYTES {
         return Err(PageFault::DeviceFailed);
     }
-    let places = TablePages::open(alloc, &SchemaKeys { schema }, cache, disk, TABLE_AT, pages)?;
+    let places = TablePages::open(alloc, &SchemaKeys { schema }, pager, TABLE_AT, pages)?;
     let mut table = TableMap::new(alloc, places);
     for asked in changes.split_terminator("; ") {
         if make_change(alloc, schema, &mut table, asked).is_err() {

@@ -2,7 +2,7 @@
 
 use crate::asked::tell_asked;
 use drda_disk::{Disk, FuseDisk, MemDisk};
-use row_pages::{PageBuilder, PageCache, PageKind};
+use row_pages::{PageBuilder, PageCache, PageKind, Pager};
 use row_values::Schema;
 use std::alloc::Global;
 use test_bytes::bytes_of;
@@ -106,16 +106,8 @@ impl Table {
 
     fn tell(&self, line: &str, out: &mut Vec<u8>) -> Option<()> {
         let copy = self.disk.copy(self.alloc).ok()?;
-        let mut disk = FuseDisk::new(copy, self.calls, false);
-        let mut cache = PageCache::new(self.alloc, 2).ok()?;
-        tell_asked(
-            self.alloc,
-            &self.schema,
-            &mut cache,
-            &mut disk,
-            self.pages,
-            line,
-            out,
-        )
+        let cache = PageCache::new(self.alloc, 2).ok()?;
+        let mut pager = Pager::over(FuseDisk::new(copy, self.calls, false), cache);
+        tell_asked(self.alloc, &self.schema, &mut pager, self.pages, line, out)
     }
 }

@@ -5,7 +5,7 @@ ghost use Rattle.paged_tables.specs.TablesByName.{LieInside};
 use ahead_view::ReadError;
 use drda_disk::MemDisk;
 use paged_tables::PagedTables;
-use row_pages::{PageCache, PageFault};
+use row_pages::{PageCache, PageFault, Pager};
 use std::alloc::Global;
 use tables::Rows;
 
@@ -18,9 +18,9 @@ pub fn read_row(
 ) -> Result<Option<Vec<u8>>, ReadError>
     requires { LieInside 0 tables.now.tables }
 {
-    let mut cache = PageCache::new(alloc, 1)?;
-    let mut disk = MemDisk::new(alloc, 0)?;
-    match tables.row(alloc, &mut cache, &mut disk, table, key) {
+    let cache = PageCache::new(alloc, 1)?;
+    let mut pager = Pager::over(MemDisk::new(alloc, 0)?, cache);
+    match tables.row(alloc, &mut pager, table, key) {
         Ok(row) => Ok(row),
         Err(fault) => Err(unread(fault)),
     }
@@ -30,9 +30,9 @@ pub fn read_row(
 pub fn read_rows(alloc: Global, tables: &PagedTables, table: &str) -> Result<Rows, ReadError>
     requires { LieInside 0 tables.now.tables }
 {
-    let mut cache = PageCache::new(alloc, 1)?;
-    let mut disk = MemDisk::new(alloc, 0)?;
-    match tables.rows(alloc, &mut cache, &mut disk, table) {
+    let cache = PageCache::new(alloc, 1)?;
+    let mut pager = Pager::over(MemDisk::new(alloc, 0)?, cache);
+    match tables.rows(alloc, &mut pager, table) {
         Ok(rows) => Ok(rows),
         Err(fault) => Err(unread(fault)),
     }

@@ -14,7 +14,6 @@ pub loop-left-init : goal.loop-left-init
 loop-left-init g c = record {
   adds = no_page g.D.Disk.is_modelled (g.D.Disk.life c.args.disk.now) c.args.image.now;
   faults = refl;
-  kept = λ honest read. read;
   names = c.requires.names;
   lists = nothing_laid g.D.Disk.is_modelled (g.D.Disk.life c.args.disk.now).seen c.args.image.now c.in_ok-rows.rows (map place_of c.args.tables.now) c.in_ok-rows.ensures.page c.in_ok-rows.ensures.empty;
 }
@@ -41,7 +40,6 @@ loop-left-preserved g c =
     record {
       adds = and_more g.D.Disk.is_modelled (life c.args.disk.now) (life c.loop-left.disk) (life c.add.new.disk) c.args.image.now c.loop-left.image c.add.new.image inv.adds c.add.ensures.adds;
       faults = c.in_ok-add.ensures.cause ∙ inv.faults;
-      kept = λ honest read. c.add.ensures.kept honest (inv.kept honest read);
       names = names_left (map place_of c.loop-left.left.now) (place_of c.table-item.result) _ first inv.names;
       lists = one_listed g.D.Disk.is_modelled (life c.loop-left.disk).seen (next_of c.args.image.now) c.loop-left.image c.loop-left.rows (map place_of c.loop-left.left.now) (map place_of c.args.tables.now) inv.lists
           (life c.add.new.disk).seen c.add.new.image c.add.new.self (place_of c.table-item.result) _ c.deref.result.now first (c.deref.ensures.value ∙ c.in_ok-entry_row.ensures.row)

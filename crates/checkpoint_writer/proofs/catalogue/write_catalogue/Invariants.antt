@@ -1,6 +1,4 @@
 use Rattle.std.proofs.Common.{◌≡◌, length, map}
-use Rattle.std.specs.Prelude.{IsTrue}
-use Rattle.row_pages.specs.Keeping.{AreRead}
 use Rattle.half_store.specs.Writing.{next_of}
 use Rattle.checkpoint_writer.specs.Adding.{AddsPages}
 use Rattle.checkpoint_writer.specs.Catalogue.{HaveNames, place_of}
@@ -11,7 +9,6 @@ abbrev pub invariant-loop-left : goal.invariant-loop-left
 invariant-loop-left g l = record {
   adds : AddsPages g.D.Disk.is_modelled (g.D.Disk.life l.fn.disk) (g.D.Disk.life l.disk) l.fn.image l.image;
   faults : (g.D.Disk.life l.disk).faults ≡ (g.D.Disk.life l.fn.disk).faults;
-  kept : IsTrue g.D.Disk.is_modelled → AreRead l.fn.cache (g.D.Disk.life l.fn.disk).seen → AreRead l.cache (g.D.Disk.life l.disk).seen;
   names : HaveNames (map place_of l.left);
   lists : IsListing g.D.Disk.is_modelled (g.D.Disk.life l.disk).seen (next_of l.fn.image) l.image l.rows (map place_of l.left) (map place_of l.fn.tables);
 }

@@ -18,7 +18,6 @@ pub loop-key-init : goal.loop-key-init
 loop-key-init g c = record {
   adds = no_page g.D.Disk.is_modelled (g.D.Disk.life c.args.disk.now) c.args.image.now;
   faults = refl;
-  kept = λ honest read. read;
   at = c.finish_pages-at.ensures.begins;
   part = none_laid g.D.Disk.is_modelled (g.D.Disk.life c.args.disk.now).seen c.args.image.now c.in_ok-writer.writer (rows_left c.args.rows) c.in_ok-writer.ensures.rows c.in_ok-writer.ensures.empty c.in_ok-writer.ensures.keys;
 }
@@ -30,7 +29,6 @@ loop-key-preserved g c =
     record {
       adds = and_more g.D.Disk.is_modelled (life c.args.disk.now) (life c.loop-key.disk) (life c.add_at.new.disk) c.args.image.now c.loop-key.image c.add_at.new.image inv.adds c.add_at.ensures.adds;
       faults = c.in_ok-add_at.ensures.cause ∙ inv.faults;
-      kept = λ honest read. c.add_at.ensures.kept honest (inv.kept honest read);
       at = inv.at;
       part = one_part g.D.Disk.is_modelled (life c.loop-key.disk).seen (next_of c.args.image.now) c.loop-key.image c.loop-key.writer (rows_left c.loop-key.left) (rows_left c.args.rows) inv.part
           (life c.add_at.new.disk).seen c.add_at.new.image c.add_at.new.self c.in-Some.key.now c.in-Some.row.now (rows_left c.next.new.self) c.in-Some.ensures.steps

@@ -1,6 +1,4 @@
 use Rattle.std.proofs.Common.{◌≡◌}
-use Rattle.std.specs.Prelude.{IsTrue}
-use Rattle.row_pages.specs.Keeping.{AreRead}
 use Rattle.key_map.specs.Walk.{rows_left}
 use Rattle.half_store.specs.Writing.{next_of}
 use Rattle.checkpoint_writer.specs.Adding.{AddsPages}
@@ -11,7 +9,6 @@ abbrev pub invariant-loop-key : goal.invariant-loop-key
 invariant-loop-key g l = record {
   adds : AddsPages g.D.Disk.is_modelled (g.D.Disk.life l.fn.disk) (g.D.Disk.life l.disk) l.fn.image l.image;
   faults : (g.D.Disk.life l.disk).faults ≡ (g.D.Disk.life l.fn.disk).faults;
-  kept : IsTrue g.D.Disk.is_modelled → AreRead l.fn.cache (g.D.Disk.life l.fn.disk).seen → AreRead l.cache (g.D.Disk.life l.disk).seen;
   at : l.at ≡ next_of l.fn.image;
   part : IsPart g.D.Disk.is_modelled (g.D.Disk.life l.disk).seen (next_of l.fn.image) l.image l.writer (rows_left l.left) (rows_left l.fn.rows);
 }

@@ -1,6 +1,5 @@
-use Rattle.std.proofs.Common.{rules, ◌≡◌, inl, inr, ⊎_elim, ℕ, ◌-◌, List, [], ◌∙◌, length, map, sym, ap, subst, arith, refl}
+use Rattle.std.proofs.Common.{rules, ◌≡◌, inl, inr, ⊎_elim, ◌-◌, [], ◌∙◌, length, map, sym, ap, subst, arith, refl}
 use Rattle.std.proofs.lemmas.List.{length-map}
-use Rattle.row_pages.specs.Keeping.{AreRead}
 use Rattle.row_pages.specs.Laying.{laid}
 use Rattle.half_store.specs.Writing.{next_of}
 use Rattle.table_map.specs.Damage.{HasNoRows}
@@ -24,7 +23,6 @@ loop-writer-init g c =
     record {
       adds = no_page g.D.Disk.is_modelled (g.D.Disk.life c.args.disk.now) c.args.image.now;
       faults = refl;
-      kept = λ honest read. read;
       end = c.rows-cursor.ensures.end;
       forward = omega (arith, c.rows-cursor.ensures.begins);
       at = c.finish_pages-at.ensures.begins;
@@ -46,7 +44,7 @@ returns-in_err-add-clause-adds g c =
     (and_more modelled (life c.loop-writer.disk) (life c.next.new.disk) (life c.add.new.disk) c.loop-writer.image c.loop-writer.image c.add.new.image (reads modelled (life c.loop-writer.disk) (life c.next.new.disk) c.loop-writer.image c.next.ensures.stays) c.add.ensures.adds)
 
 pub returns-in_err-add-clause-full : goal.returns-in_err-add-clause-full
-returns-in_err-add-clause-full g c pages honest read is apart =
+returns-in_err-add-clause-full g c pages honest is apart =
     let inv = c.loop-writer.invariant in
     let key_of = g.K.RowKeys.key_of c.args.keys.now in
     let first = (g.D.Disk.life c.args.disk.now).seen in
@@ -72,7 +70,6 @@ loop-writer-preserved g c =
       adds = and_more modelled (life c.args.disk.now) (life c.loop-writer.disk) (life c.add.new.disk) c.args.image.now c.loop-writer.image c.add.new.image inv.adds
           (and_more modelled (life c.loop-writer.disk) (life c.next.new.disk) (life c.add.new.disk) c.loop-writer.image c.loop-writer.image c.add.new.image (reads modelled (life c.loop-writer.disk) (life c.next.new.disk) c.loop-writer.image c.next.ensures.stays) c.add.ensures.adds);
       faults = c.in_ok-add.ensures.cause ∙ c.in_ok-row.ensures.cause ∙ inv.faults;
-      kept = λ honest read. c.add.ensures.kept honest (subst (λ (f : List ℕ). AreRead c.loop-writer.cache f) (sym c.next.ensures.stays.same) (inv.kept honest read));
       end = c.next.follows.holds-at-none.end ∙ inv.end;
       forward = omega (arith, inv.forward, c.next.follows.holds-at-none.forward);
       at = inv.at;
@@ -92,7 +89,7 @@ returns-in_err-finish-clause-adds g c =
     (and_more modelled (life c.loop-writer.disk) (life c.next.new.disk) (life c.finish.new.disk) c.loop-writer.image c.loop-writer.image c.finish.new.image (reads modelled (life c.loop-writer.disk) (life c.next.new.disk) c.loop-writer.image c.next.ensures.stays) c.finish.ensures.adds)
 
 pub returns-in_err-finish-clause-full : goal.returns-in_err-finish-clause-full
-returns-in_err-finish-clause-full g c pages honest read is apart =
+returns-in_err-finish-clause-full g c pages honest is apart =
     let inv = c.loop-writer.invariant in
     let key_of = g.K.RowKeys.key_of c.args.keys.now in
     let first = (g.D.Disk.life c.args.disk.now).seen in
@@ -136,7 +133,7 @@ returns-clause-pages g c =
     omega (arith, at, count, c.in_ok-finish.ensures.pages (next_of c.args.image.now) inv.merges.held.rows there.laying)
 
 pub returns-clause-rows : goal.returns-clause-rows
-returns-clause-rows g c pages honest read is apart own =
+returns-clause-rows g c pages honest is apart own =
     let inv = c.loop-writer.invariant in
     let modelled = g.D.Disk.is_modelled in
     let key_of = g.K.RowKeys.key_of c.args.keys.now in
@@ -152,7 +149,7 @@ returns-clause-rows g c pages honest read is apart own =
     is own all there.kind (c.in_ok-finish.ensures.stand (next_of c.args.image.now) inv.merges.held.rows there.laying honest) there.keys there.laying.short)
 
 pub returns-clause-noted : goal.returns-clause-noted
-returns-clause-noted g c pages honest read is apart =
+returns-clause-noted g c pages honest is apart =
     let inv = c.loop-writer.invariant in
     let key_of = g.K.RowKeys.key_of c.args.keys.now in
     let first = (g.D.Disk.life c.args.disk.now).seen in
@@ -162,7 +159,7 @@ returns-clause-noted g c pages honest read is apart =
     (λ left honest is. rw (c.in_ok-row.was, c.in_default.is) at (c.next.follows.holds-at-none.gives left honest is)) pages honest is apart
 
 pub returns-in_err-row-clause-damaged : goal.returns-in_err-row-clause-damaged
-returns-in_err-row-clause-damaged g c pages honest read is apart =
+returns-in_err-row-clause-damaged g c pages honest is apart =
     let inv = c.loop-writer.invariant in
     let key_of = g.K.RowKeys.key_of c.args.keys.now in
     let places = c.args.table.now.places in
@@ -177,7 +174,7 @@ returns-in_err-row-clause-damaged g c pages honest read is apart =
     (c.next.ensures.damaged honest)
 
 pub returns-in_err-add-clause-damaged : goal.returns-in_err-add-clause-damaged
-returns-in_err-add-clause-damaged g c pages honest read is apart =
+returns-in_err-add-clause-damaged g c pages honest is apart =
     let inv = c.loop-writer.invariant in
     let key_of = g.K.RowKeys.key_of c.args.keys.now in
     let first = (g.D.Disk.life c.args.disk.now).seen in

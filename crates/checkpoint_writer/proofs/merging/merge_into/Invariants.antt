@@ -1,6 +1,4 @@
 use Rattle.std.proofs.Common.{◌≡◌, ◌+◌, ◌*◌, ◌≤◌, length}
-use Rattle.std.specs.Prelude.{IsTrue}
-use Rattle.row_pages.specs.Keeping.{AreRead}
 use Rattle.half_store.specs.Writing.{next_of}
 use Rattle.table_map.specs.Cursor.{weight}
 use Rattle.checkpoint_writer.specs.Adding.{AddsPages}
@@ -11,7 +9,6 @@ abbrev pub invariant-loop-writer : goal.invariant-loop-writer
 invariant-loop-writer g l = record {
   adds : AddsPages g.D.Disk.is_modelled (g.D.Disk.life l.fn.disk) (g.D.Disk.life l.disk) l.fn.image l.image;
   faults : (g.D.Disk.life l.disk).faults ≡ (g.D.Disk.life l.fn.disk).faults;
-  kept : IsTrue g.D.Disk.is_modelled → AreRead l.fn.cache (g.D.Disk.life l.fn.disk).seen → AreRead l.cache (g.D.Disk.life l.disk).seen;
   end : l.cursor.base.at + 8192 * l.cursor.base.pages ≡ l.fn.table.places.at + 8192 * length l.fn.table.places.keys;
   forward : l.fn.table.places.at ≤ l.cursor.base.at;
   at : l.at ≡ next_of l.fn.image;

@@ -4,7 +4,7 @@ use Rattle.recovery.specs.Replay.{doubts_in}
 use Rattle.core_model.specs.Step.{CoreState}
 use Rattle.unit_records.specs.MadeRecords.{MadeRecords}
 use Rattle.recovery.specs.Part.{opened}
-use Rattle.journal_recorder.specs.Recording.{cache_of, disk_of, journal_of, layout_of, made_of}
+use Rattle.journal_recorder.specs.Recording.{disk_of, journal_of, layout_of, made_of}
 use Rattle.journal_recorder.specs.declared.recorder.DiskRecorder.{DiskRecorder}
 use Rattle.rdb_core.specs.State.{pages_of, recorder_of, state_of}
 use Rattle.durable_core.proofs.Opened.{has_pages, is_recorded}
@@ -14,12 +14,11 @@ pub invariant_of-result : goal.invariant_of-result
 invariant_of-result g c =
     let recorder : recorder_of c.restore_all.new.core ≡ c.new-recorder.result = c.restore_all.ensures.recorder ∙ c.restored-core.ensures.recorder in
     let state = c.in-Ok.ensures.restored ∙ ap (λ (s : CoreState). opened (record { store = s.base.store; doubts = doubts_in c.args.found.units.items })) c.restored-core.ensures.state in
-    let disk = ap (λ (r : DiskRecorder g.row.D.Denot). disk_of r) recorder ∙ c.new-recorder.ensures.disk in
+    let disk = ap (λ (r : DiskRecorder g.row.D.Denot). disk_of r) recorder ∙ c.new-recorder.ensures.disk ∙ c.forget.ensures in
     let journal = ap (λ (r : DiskRecorder g.row.D.Denot). journal_of r) recorder ∙ c.new-recorder.ensures.journal in
     let layout = ap (λ (r : DiskRecorder g.row.D.Denot). layout_of r) recorder ∙ c.new-recorder.ensures.layout in
     let none_begun : (made_of (recorder_of c.restore_all.new.core)).begun ≡ [] = ap (λ (r : DiskRecorder g.row.D.Denot). (made_of r).begun) recorder ∙ ap (λ (m : MadeRecords). m.begun) c.new-recorder.ensures.made in (
-      is_recorded g.D.Disk.is_modelled g.D.Disk.life c.openings_are_kept.ensures c.args.disk c.args.found c.requires (state_of c.restore_all.new.core) (recorder_of c.restore_all.new.core) state disk journal layout none_begun,
-      has_pages g.D.Disk.is_modelled g.D.Disk.life c.openings_are_kept.ensures c.args.disk c.args.found c.requires (state_of c.restore_all.new.core) (recorder_of c.restore_all.new.core) state disk journal layout
-          (pages_of c.restore_all.new.core) (subst (λ (t : Tables). PagesStay t (pages_of c.restore_all.new.core)) c.restored-core.ensures.pages c.restore_all.ensures.pages)
-          (ap (λ (r : DiskRecorder g.row.D.Denot). cache_of r) recorder ∙ c.new-recorder.ensures.cache),
+      is_recorded g.D.Disk.is_modelled g.D.Disk.life c.openings_are_kept.ensures c.args.pager c.args.found c.requires (state_of c.restore_all.new.core) (recorder_of c.restore_all.new.core) state disk journal layout none_begun,
+      has_pages g.D.Disk.is_modelled g.D.Disk.life c.openings_are_kept.ensures c.args.pager c.args.found c.requires (state_of c.restore_all.new.core) (recorder_of c.restore_all.new.core) state disk journal layout
+          (pages_of c.restore_all.new.core) (subst (λ (t : Tables). PagesStay t (pages_of c.restore_all.new.core)) c.restored-core.ensures.pages c.restore_all.ensures.pages),
     )

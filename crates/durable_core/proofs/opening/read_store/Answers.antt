@@ -22,7 +22,7 @@ use Rattle.durable_core.proofs.opening.read_store.Goals as goal
 
 pub returns-in_err-tables-clause-opens : goal.returns-in_err-tables-clause-opens
 returns-in_err-tables-clause-opens g c name d is opens =
-    let image = (g.D.Disk.life c.args.disk.now).seen in
+    let image = (g.D.Disk.life c.args.pager.now).seen in
     let active = c.in_ok-active.active in
     passed_on c.read_tables.result c.in_err-tables.field-0.0 c.from_residual-in_err-tables.result (search rules) (search rules)
     (tables_plain image name d opens c.images_open_there.ensures active (c.in_ok-active.ensures.head is) c.read_tables.result
@@ -30,7 +30,7 @@ returns-in_err-tables-clause-opens g c name d is opens =
 
 pub returns-in_err-tables-clause-tells : goal.returns-in_err-tables-clause-tells
 returns-in_err-tables-clause-tells g c is =
-    let image = (g.D.Disk.life c.args.disk.now).seen in
+    let image = (g.D.Disk.life c.args.pager.now).seen in
     let active = c.in_ok-active.active in
     handed_on image c.read_tables.result c.in_err-tables.field-0.0 c.from_residual-in_err-tables.result (search rules) (search rules)
     (told image (λ at. BreaksHalf forms (g.D.Disk.life c.read_head.new.disk).seen (pages_of active) at)
@@ -39,7 +39,7 @@ returns-in_err-tables-clause-tells g c is =
 
 pub returns-in_err-journal-clause-opens : goal.returns-in_err-journal-clause-opens
 returns-in_err-journal-clause-opens g c name d is opens =
-    let image = (g.D.Disk.life c.args.disk.now).seen in
+    let image = (g.D.Disk.life c.args.pager.now).seen in
     let active = c.in_ok-active.active in
     passed_on c.read_journal.result c.in_err-journal.field-0.0 c.from_residual-in_err-journal.result (search rules) (search rules)
     (journal_plain image name d opens c.images_open_there.ensures active (c.in_ok-active.ensures.head is) c.read_journal.result
@@ -47,19 +47,19 @@ returns-in_err-journal-clause-opens g c name d is opens =
 
 pub returns-in_err-journal-clause-tells : goal.returns-in_err-journal-clause-tells
 returns-in_err-journal-clause-tells g c is =
-    let image = (g.D.Disk.life c.args.disk.now).seen in
+    let image = (g.D.Disk.life c.args.pager.now).seen in
     let active = c.in_ok-active.active in
     let tables = store_in c.in_ok-tables.tables in
     let laid = subst (λ (i : List ℕ). HasCheckpoint i (pages_of active) tables) c.in_ok-active.ensures.stays.same (c.in_ok-tables.ensures.laid is) in
     handed_on image c.read_journal.result c.in_err-journal.field-0.0 c.from_residual-in_err-journal.result (search rules) (search rules)
-    (told image (λ at. HasNoRecord active.region at (g.D.Disk.life c.read_tables.new.disk).seen)
+    (told image (λ at. HasNoRecord active.region at (g.D.Disk.life c.read_tables.new.pager).seen)
     (λ at there. no_record image active (c.in_ok-active.ensures.head is) tables laid at
     (subst (λ (i : List ℕ). HasNoRecord active.region at i) (c.in_ok-tables.ensures.stays.same ∙ c.in_ok-active.ensures.stays.same) there))
     c.read_journal.result (c.read_journal.ensures.tells is))
 
 pub returns-in_err-read_units-clause-opens : goal.returns-in_err-read_units-clause-opens
 returns-in_err-read_units-clause-opens g c name d is opens =
-    let image = (g.D.Disk.life c.args.disk.now).seen in
+    let image = (g.D.Disk.life c.args.pager.now).seen in
     let active = c.in_ok-active.active in
     let tables = store_in c.in_ok-tables.tables in
     let laid = subst (λ (i : List ℕ). HasCheckpoint i (pages_of active) tables) c.in_ok-active.ensures.stays.same (c.in_ok-tables.ensures.laid is) in
@@ -71,7 +71,7 @@ returns-in_err-read_units-clause-opens g c name d is opens =
 
 pub returns-in_err-read_units-clause-tells : goal.returns-in_err-read_units-clause-tells
 returns-in_err-read_units-clause-tells g c is =
-    let image = (g.D.Disk.life c.args.disk.now).seen in
+    let image = (g.D.Disk.life c.args.pager.now).seen in
     let active = c.in_ok-active.active in
     let tables = store_in c.in_ok-tables.tables in
     let laid = subst (λ (i : List ℕ). HasCheckpoint i (pages_of active) tables) c.in_ok-active.ensures.stays.same (c.in_ok-tables.ensures.laid is) in
@@ -84,7 +84,7 @@ returns-in_err-read_units-clause-tells g c is =
 
 pub returns-in_err-hold_all-clause-opens : goal.returns-in_err-hold_all-clause-opens
 returns-in_err-hold_all-clause-opens g c name d is opens =
-    let image = (g.D.Disk.life c.args.disk.now).seen in
+    let image = (g.D.Disk.life c.args.pager.now).seen in
     let active = c.in_ok-active.active in
     let tables = store_in c.in_ok-tables.tables in
     let laid = subst (λ (i : List ℕ). HasCheckpoint i (pages_of active) tables) c.in_ok-active.ensures.stays.same (c.in_ok-tables.ensures.laid is) in
@@ -99,7 +99,7 @@ returns-in_err-hold_all-clause-opens g c name d is opens =
 
 pub returns-in_err-hold_all-clause-tells : goal.returns-in_err-hold_all-clause-tells
 returns-in_err-hold_all-clause-tells g c is =
-    let image = (g.D.Disk.life c.args.disk.now).seen in
+    let image = (g.D.Disk.life c.args.pager.now).seen in
     let active = c.in_ok-active.active in
     let tables = store_in c.in_ok-tables.tables in
     let laid = subst (λ (i : List ℕ). HasCheckpoint i (pages_of active) tables) c.in_ok-active.ensures.stays.same (c.in_ok-tables.ensures.laid is) in
@@ -121,7 +121,7 @@ returns-in_err-hold_all-clause-tells g c is =
 pub returns-clause-found : goal.returns-clause-found
 returns-clause-found g c =
     let life = g.D.Disk.life in
-    let image = (life c.args.disk.now).seen in
+    let image = (life c.args.pager.now).seen in
     let active = c.in_ok-active.active in
     let tables = store_in c.in_ok-tables.tables in
     let records = entries_of c.in_ok-journal.records.items in
@@ -139,6 +139,6 @@ returns-clause-found g c =
     (in_front g.D.Disk.is_modelled image active.region c.in_ok-tables.tables.tables c.into_parts-store.result.0.tables
     (subst (λ (t : PagesByName). PagesStay c.in_ok-tables.tables.tables t) (sym c.into_parts-store.ensures.pages) c.in_ok-read_units.ensures.pages)
     (subst (λ (i : List ℕ). StandInFront g.D.Disk.is_modelled i active.region c.in_ok-tables.tables.tables) c.in_ok-active.ensures.stays.same c.in_ok-tables.ensures.stand))
-    c.clear.ensures c.in_ok-active.ensures.head
+    c.in_ok-active.ensures.head
     (λ is. subst (λ (i : List ℕ). HasCheckpoint i (pages_of active) tables) c.in_ok-active.ensures.stays.same (c.in_ok-tables.ensures.laid is))
     (λ is. settled_on g.D.Disk.is_modelled (life c.read_journal.new.disk) records c.in_ok-journal.journal c.hold_all.new.journal c.in_ok-hold_all.ensures.same (c.in_ok-journal.ensures.records is).settled)

@@ -23,8 +23,8 @@ returns-in_err-noted-clause-full g c e is readable =
     let good = c.columns-columns.ensures.good in
     told_wider c.in_err-noted.field-0.0 c.merge_into.result c.from_residual.result (end_of_half w) (end_of_half w)
     (next_of w + 8192 * length (laid (without_keys (rows_of_table (row_form c.args.table.schema.now) c.args.table.rows.now readable.stand.pages)))) (next_of w + 8192 * pages_of_table (table_in e.1)) (search rules) (search rules) refl
-    (omega (arith, count law modelled file c.args.cache.now w e c.args.table is good readable))
-    (c.merge_into.ensures.full readable.stand.pages readable.modelled_disk readable.read (stands law modelled file c.args.cache.now w e c.args.table is good readable) (apart law modelled file c.args.cache.now w e c.args.table is good readable))
+    (omega (arith, count law modelled file w e c.args.table is good readable))
+    (c.merge_into.ensures.full readable.stand.pages readable.modelled_disk (stands law modelled file w e c.args.table is good readable) (apart law modelled file w e c.args.table is good readable))
 
 pub returns-in_err-noted-clause-damaged : goal.returns-in_err-noted-clause-damaged
 returns-in_err-noted-clause-damaged g c e is named readable =
@@ -34,8 +34,8 @@ returns-in_err-noted-clause-damaged g c e is named readable =
     let w = c.args.image.now in
     let good = c.columns-columns.ensures.good in
     handed_on _ _ c.in_err-noted.field-0.0 c.merge_into.result c.from_residual.result (search rules) (search rules)
-    (λ long. long (short law modelled file c.args.cache.now w e c.args.table is good readable named))
-    (c.merge_into.ensures.damaged readable.stand.pages readable.modelled_disk readable.read (stands law modelled file c.args.cache.now w e c.args.table is good readable) (apart law modelled file c.args.cache.now w e c.args.table is good readable))
+    (λ long. long (short law modelled file w e c.args.table is good readable named))
+    (c.merge_into.ensures.damaged readable.stand.pages readable.modelled_disk (stands law modelled file w e c.args.table is good readable) (apart law modelled file w e c.args.table is good readable))
 
 pub returns-clause-under : goal.returns-clause-under
 returns-clause-under g c e is = is_under c.rows_have_their_forms.ensures e c.args.table is c.columns-columns.ensures.good
@@ -51,10 +51,10 @@ returns-clause-laid g c e is named readable =
     let written = c.in_ok-noted.noted.pages in
     let good = c.columns-columns.ensures.good in
     let image =
-    c.in_ok-noted.ensures.rows readable.stand.pages readable.modelled_disk readable.read (stands law modelled file c.args.cache.now w e c.args.table is good readable) (apart law modelled file c.args.cache.now w e c.args.table is good readable)
-    (have law modelled file c.args.cache.now w e c.args.table is good readable) in
+    c.in_ok-noted.ensures.rows readable.stand.pages readable.modelled_disk (stands law modelled file w e c.args.table is good readable) (apart law modelled file w e c.args.table is good readable)
+    (have law modelled file w e c.args.table is good readable) in
     let last : AreLast w after written = record { at = c.in_ok-noted.ensures.at; next = c.in_ok-noted.ensures.pages } in
     let from = same_from w after c.merge_into.ensures.adds.half c.merge_into.ensures.adds.half_bytes in
-    let then : pages_of after ≡ pages_of w + pages_of_table (table_in e.1) = pages_then law modelled file c.args.cache.now w e c.args.table is good readable new after written named image last from in
+    let then : pages_of after ≡ pages_of w + pages_of_table (table_in e.1) = pages_then law modelled file w e c.args.table is good readable new after written named image last from in
     let many : c.pages.result - c.pages-first.result ≡ pages_of_table (table_in e.1) = omega (arith, c.pages.ensures, c.pages-first.ensures, then) in
-    lays law modelled file c.args.cache.now w e c.args.table is good readable new after written named image last from c.first_page.result (c.pages.result - c.pages-first.result) many (search rules)
+    lays law modelled file w e c.args.table is good readable new after written named image last from c.first_page.result (c.pages.result - c.pages-first.result) many (search rules)

@@ -54,7 +54,7 @@ returns-in_err-written-clause-full g c readable =
     let room = room_left modelled file begun c.loop-table.image _ (all_shown c.loop-table.left) (all_shown c.args.tables) far (created_entry lent.0) (all_shown c.next_table.new.self) (ap all_shown lent.2) in
     told_wider c.in_err-written.field-0.0 c.write_table.result c.from_residual.result (end_of_half c.loop-table.image) (end_of_half begun) (next_of c.loop-table.image + 8192 * pages_of_table (table_in lent.0.1))
     (next_of begun + 8192 * pages_of_tables (all_shown c.args.tables)) (search rules) (search rules) (ap₂ (λ a b. a + b) from inv.adds.half_bytes) (omega (arith, from, room))
-    (c.write_table.ensures.full lent.0 lent.1 (one_readable modelled file c.loop-table.cache c.loop-table.image c.loop-table.left lent.0 c.next_table.new.self lent.2 (inv.readable readable)))
+    (c.write_table.ensures.full lent.0 lent.1 (one_readable modelled file c.loop-table.image c.loop-table.left lent.0 c.next_table.new.self lent.2 (inv.readable readable)))
 
 pub returns-in_err-written-clause-damaged : goal.returns-in_err-written-clause-damaged
 returns-in_err-written-clause-damaged g c readable =
@@ -64,7 +64,7 @@ returns-in_err-written-clause-damaged g c readable =
     let lent = c.in-Some.ensures in
     let good = good_first c.loop-table.left lent.0 c.next_table.new.self lent.2 inv.good in
     handed_on _ _ c.in_err-written.field-0.0 c.write_table.result c.from_residual.result (search rules) (search rules) (λ never. never)
-    (c.write_table.ensures.damaged lent.0 lent.1 good.0 (one_readable modelled file c.loop-table.cache c.loop-table.image c.loop-table.left lent.0 c.next_table.new.self lent.2 (inv.readable readable)))
+    (c.write_table.ensures.damaged lent.0 lent.1 good.0 (one_readable modelled file c.loop-table.image c.loop-table.left lent.0 c.next_table.new.self lent.2 (inv.readable readable)))
 
 pub returns-in_err-push_table-clause-adds : goal.returns-in_err-push_table-clause-adds
 returns-in_err-push_table-clause-adds g c =
@@ -106,9 +106,9 @@ loop-table-preserved g c =
           (lie_wider (next_of begun) (next_of w) (next_of begun) (next_of after) c.loop-table.laid.pages.items (omega arith) (omega (arith, here, adds.more)) inv.lie)
           (record { first = omega (arith, last.at, there, inv.adds.more); last = omega (arith, last.next) }));
       count = omega (arith, count, inv.count, ap length lent.2);
-      readable = λ readable. rest_readable modelled old new c.loop-table.cache c.write_table.new.cache w after c.loop-table.left e rest lent.2 here adds.half_bytes adds.others c.write_table.ensures.kept (inv.readable readable);
+      readable = λ readable. rest_readable modelled old new w after c.loop-table.left e rest lent.2 here adds.half_bytes adds.others (inv.readable readable);
       laid = λ readable.
           one_laid modelled old new begun w after _ (map place_of c.loop-table.laid.places.items) (map place_of c.push_table.new.tables.places.items) c.loop-table.laid.pages.items c.push_table.new.tables.pages.items c.loop-table.left e rest c.args.tables
           (place_of made.place) made.pages lent.2 there adds.others places_are c.in_ok-push_table.ensures.pages
-          (c.in_ok-written.ensures.laid e lent.1 good.0 (one_readable modelled old c.loop-table.cache w c.loop-table.left e rest lent.2 (inv.readable readable))) (inv.laid readable);
+          (c.in_ok-written.ensures.laid e lent.1 good.0 (one_readable modelled old w c.loop-table.left e rest lent.2 (inv.readable readable))) (inv.laid readable);
     }

@@ -20,8 +20,8 @@ invariant-loop-table g l = record {
   under : AllByRecursion IsUnder l.left → AllByRecursion IsUnder l.fn.tables;
   lie : AllByRecursion (LiesFrom (next_of l.fn.image) (next_of l.image)) l.laid.pages.items;
   count : length l.laid.pages.items + length l.left ≡ length l.fn.tables;
-  readable : AreReadable g.D.Disk.is_modelled (g.D.Disk.life l.fn.disk).seen l.fn.cache l.fn.image l.fn.tables → AreReadable g.D.Disk.is_modelled (g.D.Disk.life l.disk).seen l.cache l.image l.left;
-  laid : AreReadable g.D.Disk.is_modelled (g.D.Disk.life l.fn.disk).seen l.fn.cache l.fn.image l.fn.tables
+  readable : AreReadable g.D.Disk.is_modelled (g.D.Disk.life l.fn.disk).seen l.fn.image l.fn.tables → AreReadable g.D.Disk.is_modelled (g.D.Disk.life l.disk).seen l.image l.left;
+  laid : AreReadable g.D.Disk.is_modelled (g.D.Disk.life l.fn.disk).seen l.fn.image l.fn.tables
       → LaysSoFar g.D.Disk.is_modelled (g.D.Disk.life l.disk).seen l.fn.image l.image (map place_of l.laid.places.items) l.laid.pages.items l.left l.fn.tables;
 }
 

@@ -43,8 +43,8 @@ returns-clause-any_moment g c rests so =
     let mid = g.D.Disk.life c.needed_bytes.new.disk in
     let stays = c.needed_bytes.ensures.stays in
     let store = store_of c.args.active.now in
-    leaves_then modelled old mid stays store rests (store_in c.args.tables.now) (entries_of c.args.records.now) c.args.held (g.D.Disk.life c.write_half-relaid.new.disk)
-    (c.write_half-relaid.ensures.any_moment (rests_still modelled old mid stays store rests) (apart_still modelled old mid stays store c.args.tables.now.tables so))
+    leaves_then modelled old mid stays store rests (store_in c.args.tables.now) (entries_of c.args.records.now) c.args.held (g.D.Disk.life c.write_half.new.disk)
+    (c.write_half.ensures.any_moment (rests_still modelled old mid stays store rests) (apart_still modelled old mid stays store c.args.tables.now.tables so))
 
 pub returns-clause-done : goal.returns-clause-done
 returns-clause-done g c =
@@ -53,10 +53,10 @@ returns-clause-done g c =
     let mid = g.D.Disk.life c.needed_bytes.new.disk in
     let stays = c.needed_bytes.ensures.stays in
     let store = store_of c.args.active.now in
-    IfOk-weaker c.write_half-relaid.result _ _
-    (λ r is rests so. subst (λ (base : List ℕ). IsAnew modelled (g.D.Disk.life c.write_half-relaid.new.disk) base store (store_in c.args.tables.now) (entries_of c.args.records.now) c.args.held r.switched) stays.same
+    IfOk-weaker c.write_half.result _ _
+    (λ r is rests so. subst (λ (base : List ℕ). IsAnew modelled (g.D.Disk.life c.write_half.new.disk) base store (store_in c.args.tables.now) (entries_of c.args.records.now) c.args.held r.switched) stays.same
     (is (rests_still modelled old mid stays store rests) (apart_still modelled old mid stays store c.args.tables.now.tables so)))
-    c.write_half-relaid.ensures.done
+    c.write_half.ensures.done
 
 pub returns-clause-full : goal.returns-clause-full
 returns-clause-full g c so =
@@ -70,8 +70,8 @@ returns-clause-full g c so =
     let need = c.in_ok-need.ensures.need so.modelled_disk (c.lend.ensures.pages.stand old.seen so.stand) ∙ shown in
     let room = c.half_bytes-room.ensures.len ∙ ap half_len (c.size.ensures ∙ ap (λ (l : List ℕ). length l) stays.same) in
     let fits : all ≤ half_len (length old.seen) = omega (arith, need, room, c.half_bytes-room.ensures.small, c.if-need-room.false) in
-    let told = subst (λ (image : List ℕ). TellsRoom c.write_half-relaid.result all (half_len (length image))) stays.same (c.write_half-relaid.ensures.full (apart_still modelled old mid stays (store_of c.args.active.now) c.args.tables.now.tables so)) in
-    says_room c.write_half-relaid.result all (half_len (length old.seen)) fits told
+    let told = subst (λ (image : List ℕ). TellsRoom c.write_half.result all (half_len (length image))) stays.same (c.write_half.ensures.full (apart_still modelled old mid stays (store_of c.args.active.now) c.args.tables.now.tables so)) in
+    says_room c.write_half.result all (half_len (length old.seen)) fits told
 
 pub returns-clause-unwritten : goal.returns-clause-unwritten
 returns-clause-unwritten g c so =
@@ -85,5 +85,5 @@ returns-clause-unwritten g c so =
     let need = c.in_ok-need.ensures.need so.modelled_disk (c.lend.ensures.pages.stand old.seen so.stand) ∙ shown in
     let room = c.half_bytes-room.ensures.len ∙ ap half_len (c.size.ensures ∙ ap (λ (l : List ℕ). length l) stays.same) in
     let fits : all ≤ half_len (length old.seen) = omega (arith, need, room, c.half_bytes-room.ensures.small, c.if-need-room.false) in
-    let told = subst (λ (image : List ℕ). TellsRoom c.write_half-relaid.result all (half_len (length image))) stays.same (c.write_half-relaid.ensures.full (apart_still modelled old mid stays (store_of c.args.active.now) c.args.tables.now.tables so)) in
-    never_full (Stays old (g.D.Disk.life c.write_half-relaid.new.disk)) c.write_half-relaid.result all (half_len (length old.seen)) fits told
+    let told = subst (λ (image : List ℕ). TellsRoom c.write_half.result all (half_len (length image))) stays.same (c.write_half.ensures.full (apart_still modelled old mid stays (store_of c.args.active.now) c.args.tables.now.tables so)) in
+    never_full (Stays old (g.D.Disk.life c.write_half.new.disk)) c.write_half.result all (half_len (length old.seen)) fits told

@@ -30,92 +30,92 @@ returns-in_err-image-clause-any_moment g c rests so =
 pub returns-in-Ok-clause-any_moment : goal.returns-in-Ok-clause-any_moment
 returns-in-Ok-clause-any_moment g c rests so =
     let life = g.D.Disk.life in
-    leaves g.D.Disk.is_modelled (life c.args.disk.now) (life c.begin_image.new.disk) c.args.active.now c.args.cache.now c.in_ok-image.image c.args.tables.now.tables c.lend.result
-    c.requires.size c.begin_image.ensures.others c.in_ok-image.ensures.half c.requires.none c.lend.ensures.tables
+    leaves g.D.Disk.is_modelled (life c.args.disk.now) (life c.begin_image.new.disk) c.args.active.now c.in_ok-image.image c.args.tables.now.tables c.lend.result
+    c.requires.size c.begin_image.ensures.others c.in_ok-image.ensures.half c.lend.ensures.tables
     c.in_ok-image.ensures.begun rests so (life c.write_image.new.disk) (entries_of c.args.records.now) c.args.held c.begin_image.ensures.any_moment c.write_image.ensures.any_moment
 
 pub returns-in-Err-DeviceFailed-clause-any_moment : goal.returns-in-Err-DeviceFailed-clause-any_moment
 returns-in-Err-DeviceFailed-clause-any_moment g c rests so =
     let life = g.D.Disk.life in
-    leaves g.D.Disk.is_modelled (life c.args.disk.now) (life c.begin_image.new.disk) c.args.active.now c.args.cache.now c.in_ok-image.image c.args.tables.now.tables c.lend.result
-    c.requires.size c.begin_image.ensures.others c.in_ok-image.ensures.half c.requires.none c.lend.ensures.tables
+    leaves g.D.Disk.is_modelled (life c.args.disk.now) (life c.begin_image.new.disk) c.args.active.now c.in_ok-image.image c.args.tables.now.tables c.lend.result
+    c.requires.size c.begin_image.ensures.others c.in_ok-image.ensures.half c.lend.ensures.tables
     c.in_ok-image.ensures.begun rests so (life c.write_image.new.disk) (entries_of c.args.records.now) c.args.held c.begin_image.ensures.any_moment c.write_image.ensures.any_moment
 
 pub returns-in_err-sync-in-Err-NoMemory-clause-any_moment : goal.returns-in_err-sync-in-Err-NoMemory-clause-any_moment
 returns-in_err-sync-in-Err-NoMemory-clause-any_moment g c rests so =
     let life = g.D.Disk.life in
-    leaves_synced g.D.Disk.is_modelled (life c.args.disk.now) (life c.begin_image.new.disk) c.args.active.now c.args.cache.now c.in_ok-image.image c.args.tables.now.tables c.lend.result
-    c.requires.size c.begin_image.ensures.others c.in_ok-image.ensures.half c.requires.none c.lend.ensures.tables
+    leaves_synced g.D.Disk.is_modelled (life c.args.disk.now) (life c.begin_image.new.disk) c.args.active.now c.in_ok-image.image c.args.tables.now.tables c.lend.result
+    c.requires.size c.begin_image.ensures.others c.in_ok-image.ensures.half c.lend.ensures.tables
     c.in_ok-image.ensures.begun rests so (life c.write_image.new.disk) (entries_of c.args.records.now) c.args.held c.begin_image.ensures.any_moment c.write_image.ensures.any_moment (life c.sync.new.self) c.sync.ensures.stays
 
 pub returns-in_ok-sync-in-Err-NoMemory-clause-any_moment : goal.returns-in_ok-sync-in-Err-NoMemory-clause-any_moment
 returns-in_ok-sync-in-Err-NoMemory-clause-any_moment g c rests so =
     let life = g.D.Disk.life in
-    leaves_synced g.D.Disk.is_modelled (life c.args.disk.now) (life c.begin_image.new.disk) c.args.active.now c.args.cache.now c.in_ok-image.image c.args.tables.now.tables c.lend.result
-    c.requires.size c.begin_image.ensures.others c.in_ok-image.ensures.half c.requires.none c.lend.ensures.tables
+    leaves_synced g.D.Disk.is_modelled (life c.args.disk.now) (life c.begin_image.new.disk) c.args.active.now c.in_ok-image.image c.args.tables.now.tables c.lend.result
+    c.requires.size c.begin_image.ensures.others c.in_ok-image.ensures.half c.lend.ensures.tables
     c.in_ok-image.ensures.begun rests so (life c.write_image.new.disk) (entries_of c.args.records.now) c.args.held c.begin_image.ensures.any_moment c.write_image.ensures.any_moment (life c.sync.new.self) c.sync.ensures.stays
 
 pub returns-in_err-sync-in-Err-Damaged-clause-any_moment : goal.returns-in_err-sync-in-Err-Damaged-clause-any_moment
 returns-in_err-sync-in-Err-Damaged-clause-any_moment g c rests so =
     let life = g.D.Disk.life in
-    leaves_synced g.D.Disk.is_modelled (life c.args.disk.now) (life c.begin_image.new.disk) c.args.active.now c.args.cache.now c.in_ok-image.image c.args.tables.now.tables c.lend.result
-    c.requires.size c.begin_image.ensures.others c.in_ok-image.ensures.half c.requires.none c.lend.ensures.tables
+    leaves_synced g.D.Disk.is_modelled (life c.args.disk.now) (life c.begin_image.new.disk) c.args.active.now c.in_ok-image.image c.args.tables.now.tables c.lend.result
+    c.requires.size c.begin_image.ensures.others c.in_ok-image.ensures.half c.lend.ensures.tables
     c.in_ok-image.ensures.begun rests so (life c.write_image.new.disk) (entries_of c.args.records.now) c.args.held c.begin_image.ensures.any_moment c.write_image.ensures.any_moment (life c.sync-in-Err-Damaged.new.self) c.sync-in-Err-Damaged.ensures.stays
 
 pub returns-in_ok-sync-in-Err-Damaged-clause-any_moment : goal.returns-in_ok-sync-in-Err-Damaged-clause-any_moment
 returns-in_ok-sync-in-Err-Damaged-clause-any_moment g c rests so =
     let life = g.D.Disk.life in
-    leaves_synced g.D.Disk.is_modelled (life c.args.disk.now) (life c.begin_image.new.disk) c.args.active.now c.args.cache.now c.in_ok-image.image c.args.tables.now.tables c.lend.result
-    c.requires.size c.begin_image.ensures.others c.in_ok-image.ensures.half c.requires.none c.lend.ensures.tables
+    leaves_synced g.D.Disk.is_modelled (life c.args.disk.now) (life c.begin_image.new.disk) c.args.active.now c.in_ok-image.image c.args.tables.now.tables c.lend.result
+    c.requires.size c.begin_image.ensures.others c.in_ok-image.ensures.half c.lend.ensures.tables
     c.in_ok-image.ensures.begun rests so (life c.write_image.new.disk) (entries_of c.args.records.now) c.args.held c.begin_image.ensures.any_moment c.write_image.ensures.any_moment (life c.sync-in-Err-Damaged.new.self) c.sync-in-Err-Damaged.ensures.stays
 
 pub returns-in_err-sync-in-Err-Full-clause-any_moment : goal.returns-in_err-sync-in-Err-Full-clause-any_moment
 returns-in_err-sync-in-Err-Full-clause-any_moment g c rests so =
     let life = g.D.Disk.life in
-    leaves_synced g.D.Disk.is_modelled (life c.args.disk.now) (life c.begin_image.new.disk) c.args.active.now c.args.cache.now c.in_ok-image.image c.args.tables.now.tables c.lend.result
-    c.requires.size c.begin_image.ensures.others c.in_ok-image.ensures.half c.requires.none c.lend.ensures.tables
+    leaves_synced g.D.Disk.is_modelled (life c.args.disk.now) (life c.begin_image.new.disk) c.args.active.now c.in_ok-image.image c.args.tables.now.tables c.lend.result
+    c.requires.size c.begin_image.ensures.others c.in_ok-image.ensures.half c.lend.ensures.tables
     c.in_ok-image.ensures.begun rests so (life c.write_image.new.disk) (entries_of c.args.records.now) c.args.held c.begin_image.ensures.any_moment c.write_image.ensures.any_moment (life c.sync-in-Err-Full.new.self) c.sync-in-Err-Full.ensures.stays
 
 pub returns-in_ok-sync-in-Err-Full-clause-any_moment : goal.returns-in_ok-sync-in-Err-Full-clause-any_moment
 returns-in_ok-sync-in-Err-Full-clause-any_moment g c rests so =
     let life = g.D.Disk.life in
-    leaves_synced g.D.Disk.is_modelled (life c.args.disk.now) (life c.begin_image.new.disk) c.args.active.now c.args.cache.now c.in_ok-image.image c.args.tables.now.tables c.lend.result
-    c.requires.size c.begin_image.ensures.others c.in_ok-image.ensures.half c.requires.none c.lend.ensures.tables
+    leaves_synced g.D.Disk.is_modelled (life c.args.disk.now) (life c.begin_image.new.disk) c.args.active.now c.in_ok-image.image c.args.tables.now.tables c.lend.result
+    c.requires.size c.begin_image.ensures.others c.in_ok-image.ensures.half c.lend.ensures.tables
     c.in_ok-image.ensures.begun rests so (life c.write_image.new.disk) (entries_of c.args.records.now) c.args.held c.begin_image.ensures.any_moment c.write_image.ensures.any_moment (life c.sync-in-Err-Full.new.self) c.sync-in-Err-Full.ensures.stays
 
 pub returns-in-Ok-clause-done : goal.returns-in-Ok-clause-done
 returns-in-Ok-clause-done g c rests so =
     let life = g.D.Disk.life in
-    anew_then g.D.Disk.is_modelled (life c.args.disk.now) (life c.begin_image.new.disk) c.args.active.now c.args.cache.now c.in_ok-image.image c.args.tables.now.tables c.lend.result
-    c.requires.size c.begin_image.ensures.others c.in_ok-image.ensures.half c.requires.none c.lend.ensures.tables
+    anew_then g.D.Disk.is_modelled (life c.args.disk.now) (life c.begin_image.new.disk) c.args.active.now c.in_ok-image.image c.args.tables.now.tables c.lend.result
+    c.requires.size c.begin_image.ensures.others c.in_ok-image.ensures.half c.lend.ensures.tables
     c.in_ok-image.ensures.begun rests so (life c.write_image.new.disk) (entries_of c.args.records.now) c.args.held c.in-Ok.relaid.switched c.in-Ok.ensures.done
 
 pub returns-in-Ok-clause-stand : goal.returns-in-Ok-clause-stand
 returns-in-Ok-clause-stand g c rests so =
     let life = g.D.Disk.life in
-    stand_then g.D.Disk.is_modelled (life c.args.disk.now) (life c.begin_image.new.disk) c.args.active.now c.args.cache.now c.in_ok-image.image c.args.tables.now.tables c.lend.result
-    c.requires.size c.begin_image.ensures.others c.in_ok-image.ensures.half c.requires.none c.lend.ensures.tables
+    stand_then g.D.Disk.is_modelled (life c.args.disk.now) (life c.begin_image.new.disk) c.args.active.now c.in_ok-image.image c.args.tables.now.tables c.lend.result
+    c.requires.size c.begin_image.ensures.others c.in_ok-image.ensures.half c.lend.ensures.tables
     c.in_ok-image.ensures.begun rests so (life c.write_image.new.disk).seen c.in-Ok.relaid.pages.items c.in-Ok.ensures.stand
 
 pub returns-in_ok-sync-in-Err-NoMemory-clause-goes_on : goal.returns-in_ok-sync-in-Err-NoMemory-clause-goes_on
 returns-in_ok-sync-in-Err-NoMemory-clause-goes_on g c rests =
     let life = g.D.Disk.life in
-    still_old g.D.Disk.is_modelled (life c.args.disk.now) (life c.begin_image.new.disk) c.args.active.now c.args.cache.now c.in_ok-image.image c.args.tables.now.tables c.lend.result
-    c.requires.size c.begin_image.ensures.others c.in_ok-image.ensures.half c.requires.none c.lend.ensures.tables
+    still_old g.D.Disk.is_modelled (life c.args.disk.now) (life c.begin_image.new.disk) c.args.active.now c.in_ok-image.image c.args.tables.now.tables c.lend.result
+    c.requires.size c.begin_image.ensures.others c.in_ok-image.ensures.half c.lend.ensures.tables
     c.in_ok-image.ensures.begun rests (life c.write_image.new.disk) (life c.sync.new.self) (rw c.in-Err-NoMemory.field-0-is at c.in-Err-NoMemory.ensures.refused) (g.met.D.Disk.read_is_image c.write_image.new.disk) c.sync.ensures.stays c.in_ok-sync-in-Err-NoMemory.ensures.durable
 
 pub returns-in_ok-sync-in-Err-Damaged-clause-goes_on : goal.returns-in_ok-sync-in-Err-Damaged-clause-goes_on
 returns-in_ok-sync-in-Err-Damaged-clause-goes_on g c rests =
     let life = g.D.Disk.life in
-    still_old g.D.Disk.is_modelled (life c.args.disk.now) (life c.begin_image.new.disk) c.args.active.now c.args.cache.now c.in_ok-image.image c.args.tables.now.tables c.lend.result
-    c.requires.size c.begin_image.ensures.others c.in_ok-image.ensures.half c.requires.none c.lend.ensures.tables
+    still_old g.D.Disk.is_modelled (life c.args.disk.now) (life c.begin_image.new.disk) c.args.active.now c.in_ok-image.image c.args.tables.now.tables c.lend.result
+    c.requires.size c.begin_image.ensures.others c.in_ok-image.ensures.half c.lend.ensures.tables
     c.in_ok-image.ensures.begun rests (life c.write_image.new.disk) (life c.sync-in-Err-Damaged.new.self) (rw c.in-Err-Damaged.field-0-is at c.in-Err-Damaged.ensures.refused) (g.met.D.Disk.read_is_image c.write_image.new.disk) c.sync-in-Err-Damaged.ensures.stays c.in_ok-sync-in-Err-Damaged.ensures.durable
 
 pub returns-in_ok-sync-in-Err-Full-clause-goes_on : goal.returns-in_ok-sync-in-Err-Full-clause-goes_on
 returns-in_ok-sync-in-Err-Full-clause-goes_on g c rests =
     let life = g.D.Disk.life in
-    still_old g.D.Disk.is_modelled (life c.args.disk.now) (life c.begin_image.new.disk) c.args.active.now c.args.cache.now c.in_ok-image.image c.args.tables.now.tables c.lend.result
-    c.requires.size c.begin_image.ensures.others c.in_ok-image.ensures.half c.requires.none c.lend.ensures.tables
+    still_old g.D.Disk.is_modelled (life c.args.disk.now) (life c.begin_image.new.disk) c.args.active.now c.in_ok-image.image c.args.tables.now.tables c.lend.result
+    c.requires.size c.begin_image.ensures.others c.in_ok-image.ensures.half c.lend.ensures.tables
     c.in_ok-image.ensures.begun rests (life c.write_image.new.disk) (life c.sync-in-Err-Full.new.self) (rw c.in-Err-Full.field-0-is at c.in-Err-Full.ensures.refused) (g.met.D.Disk.read_is_image c.write_image.new.disk) c.sync-in-Err-Full.ensures.stays c.in_ok-sync-in-Err-Full.ensures.durable
 
 pub returns-in-Ok-clause-count : goal.returns-in-Ok-clause-count
@@ -133,20 +133,20 @@ returns-in-Ok-clause-apart g c =
 pub returns-in-Ok-clause-full : goal.returns-in-Ok-clause-full
 returns-in-Ok-clause-full g c so =
     let life = g.D.Disk.life in
-    room_told g.D.Disk.is_modelled (life c.args.disk.now) (life c.begin_image.new.disk) c.args.active.now c.args.cache.now c.in_ok-image.image c.args.tables.now.tables c.lend.result
-    c.requires.size c.begin_image.ensures.others c.in_ok-image.ensures.half c.requires.none c.lend.ensures.tables
+    room_told g.D.Disk.is_modelled (life c.args.disk.now) (life c.begin_image.new.disk) c.args.active.now c.in_ok-image.image c.args.tables.now.tables c.lend.result
+    c.requires.size c.begin_image.ensures.others c.in_ok-image.ensures.half c.lend.ensures.tables
     (Ok c.in-Ok.relaid) (entries_of c.args.records.now) c.args.held c.in-Ok.ensures.full so
 
 pub returns-in_ok-sync-in-Err-Damaged-clause-damaged : goal.returns-in_ok-sync-in-Err-Damaged-clause-damaged
 returns-in_ok-sync-in-Err-Damaged-clause-damaged g c so =
     let life = g.D.Disk.life in
     (rw c.in-Err-Damaged.field-0-is at c.in-Err-Damaged.ensures.damaged)
-    (readable g.D.Disk.is_modelled (life c.args.disk.now) (life c.begin_image.new.disk) c.args.active.now c.args.cache.now c.in_ok-image.image c.args.tables.now.tables c.lend.result
-    c.requires.size c.begin_image.ensures.others c.in_ok-image.ensures.half c.requires.none c.lend.ensures.tables so)
+    (readable g.D.Disk.is_modelled (life c.args.disk.now) (life c.begin_image.new.disk) c.args.active.now c.in_ok-image.image c.args.tables.now.tables c.lend.result
+    c.requires.size c.begin_image.ensures.others c.in_ok-image.ensures.half c.lend.ensures.tables so)
 
 pub returns-in_ok-sync-in-Err-Full-clause-full : goal.returns-in_ok-sync-in-Err-Full-clause-full
 returns-in_ok-sync-in-Err-Full-clause-full g c so =
     let life = g.D.Disk.life in
-    room_told g.D.Disk.is_modelled (life c.args.disk.now) (life c.begin_image.new.disk) c.args.active.now c.args.cache.now c.in_ok-image.image c.args.tables.now.tables c.lend.result
-    c.requires.size c.begin_image.ensures.others c.in_ok-image.ensures.half c.requires.none c.lend.ensures.tables
+    room_told g.D.Disk.is_modelled (life c.args.disk.now) (life c.begin_image.new.disk) c.args.active.now c.in_ok-image.image c.args.tables.now.tables c.lend.result
+    c.requires.size c.begin_image.ensures.others c.in_ok-image.ensures.half c.lend.ensures.tables
     {T = Relaid} (Err (Full c.in-Err-Full.full)) (entries_of c.args.records.now) c.args.held (rw c.in-Err-Full.field-0-is at c.in-Err-Full.ensures.full) so

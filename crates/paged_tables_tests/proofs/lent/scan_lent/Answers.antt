@@ -2,4 +2,4 @@ use Rattle.std.proofs.Common.{length}
 use Rattle.paged_tables_tests.proofs.lent.scan_lent.Goals as goal
 
 pub scan_into-requires : goal.scan_into-requires
-scan_into-requires g c = c.in-Some.ensures (length (g.D.Disk.life c.args.disk.now).seen) c.requires
+scan_into-requires g c = c.in-Some.ensures (length (g.D.Disk.life c.args.pager.now).seen) c.requires

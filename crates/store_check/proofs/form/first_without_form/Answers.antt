@@ -6,39 +6,38 @@ use Rattle.store_check.proofs.Formed.{all_formed, first_broken, not_told, one_fo
 use Rattle.store_check.proofs.form.first_without_form.Goals as goal
 
 pub returns-in_err-has_form-clause-told : goal.returns-in_err-has_form-clause-told
-returns-in_err-has_form-clause-told g c honest read =
+returns-in_err-has_form-clause-told g c honest =
     let inv = c.loop-page.invariant in
-    let file = (g.D.Disk.life c.args.disk.now).seen in
+    let file = (g.D.Disk.life c.args.pager.now).seen in
     let half = pages_of c.args.active.now in
     let e = c.in_err-has_form.field-0.0 in
-    let told = subst (λ (f : List ℕ). TellsWhether (HasForm f half c.loop-page.page) (Err e)) inv.stays.same (c.in_err-has_form.ensures.told honest (inv.kept honest read)) in
+    let told = subst (λ (f : List ℕ). TellsWhether (HasForm f half c.loop-page.page) (Err e)) inv.stays.same (c.in_err-has_form.ensures.told honest) in
     not_told file half (HasForm file half c.loop-page.page) e told c.from_residual.result (search rules)
 
 pub returns-then-not-branch-clause-told : goal.returns-then-not-branch-clause-told
-returns-then-not-branch-clause-told g c honest read =
+returns-then-not-branch-clause-told g c honest =
     let inv = c.loop-page.invariant in
-    let file = (g.D.Disk.life c.args.disk.now).seen in
+    let file = (g.D.Disk.life c.args.pager.now).seen in
     let half = pages_of c.args.active.now in
     let b = c.in_ok-has_form.field-0 in
-    let told = subst (λ (f : List ℕ). TellsWhether (HasForm f half c.loop-page.page) (Ok b)) inv.stays.same (c.in_ok-has_form.ensures.told honest (inv.kept honest read)) in
-    first_broken file half c.loop-page.page c.place_of.result b c.loop-page-test.true (inv.formed honest read) told (search rules) c.place_of.ensures
+    let told = subst (λ (f : List ℕ). TellsWhether (HasForm f half c.loop-page.page) (Ok b)) inv.stays.same (c.in_ok-has_form.ensures.told honest) in
+    first_broken file half c.loop-page.page c.place_of.result b c.loop-page-test.true (inv.formed honest) told (search rules) c.place_of.ensures
 
 pub loop-page-preserved : goal.loop-page-preserved
 loop-page-preserved g c =
     let inv = c.loop-page.invariant in
-    let file = (g.D.Disk.life c.args.disk.now).seen in
+    let file = (g.D.Disk.life c.args.pager.now).seen in
     let half = pages_of c.args.active.now in
     let b = c.in_ok-has_form.field-0 in
     record {
       stays = Stays-trans _ _ _ inv.stays c.has_form.ensures.stays;
       faults = c.in_ok-has_form.ensures.cause ∙ inv.faults;
-      kept = λ honest read. c.has_form.ensures.kept honest (inv.kept honest read);
-      formed = λ honest read.
-          one_formed file half c.loop-page.page b (inv.formed honest read)
-          (subst (λ (f : List ℕ). TellsWhether (HasForm f half c.loop-page.page) (Ok b)) inv.stays.same (c.in_ok-has_form.ensures.told honest (inv.kept honest read))) (search rules);
+      formed = λ honest.
+          one_formed file half c.loop-page.page b (inv.formed honest)
+          (subst (λ (f : List ℕ). TellsWhether (HasForm f half c.loop-page.page) (Ok b)) inv.stays.same (c.in_ok-has_form.ensures.told honest)) (search rules);
     }
 
 pub returns-clause-told : goal.returns-clause-told
-returns-clause-told g c honest read =
+returns-clause-told g c honest =
     let inv = c.loop-page.invariant in
-    all_formed (g.D.Disk.life c.args.disk.now).seen (pages_of c.args.active.now) c.loop-page.page (inv.formed honest read) (omega (arith, c.loop-page-test.false, c.loop-page.auto.page-end))
+    all_formed (g.D.Disk.life c.args.pager.now).seen (pages_of c.args.active.now) c.loop-page.page (inv.formed honest) (omega (arith, c.loop-page-test.false, c.loop-page.auto.page-end))

@@ -15,7 +15,7 @@ pub loop-table-preserved : goal.loop-table-preserved
 loop-table-preserved g c =
     let inv = c.loop-table.invariant in
     let key_of = g.K.KeysBySchema.key_of c.args.keys.now in
-    let file = (g.D.Disk.life c.args.disk.now).seen in
+    let file = (g.D.Disk.life c.args.pager.now).seen in
     let all = map entry_of c.args.tables.items in
     let t = c.in-Some.table in
     let more = map entry_of c.next.new.self.rest.items in
@@ -29,7 +29,6 @@ loop-table-preserved g c =
     record {
       stays = Stays-trans _ _ _ inv.stays c.check_stored.ensures.stays;
       faults = c.in_ok-pages.ensures.cause ∙ inv.faults;
-      kept = λ honest read. c.check_stored.ensures.kept honest (inv.kept honest read);
       low = within;
       lie = next_more next c.args.first (entry_of t) more lie;
       inside =
@@ -44,10 +43,10 @@ loop-table-preserved g c =
       same =
           entries_done old c.push_table.new.list.items (record { table = t; pages = c.in_ok-pages.pages }) more all
           (subst (λ (es : List Entry). map entry_in old ++ es ≡ all) left_is inv.same) c.in_ok-push_table.ensures.items;
-      checked = λ honest read.
-          let told = subst (λ (f : List ℕ). ChecksTable t.schema (key_of t.schema) f (page_at c.args.at t.first_page) t.pages (Ok c.in_ok-pages.pages.pages)) inv.stays.same (c.in_ok-pages.ensures.told honest (inv.kept honest read)) in
+      checked = λ honest.
+          let told = subst (λ (f : List ℕ). ChecksTable t.schema (key_of t.schema) f (page_at c.args.at t.first_page) t.pages (Ok c.in_ok-pages.pages.pages)) inv.stays.same (c.in_ok-pages.ensures.told honest) in
           one_checked key_of file c.args.at c.args.first all t c.in_ok-pages.pages more next old c.push_table.new.list.items
-          (subst (λ (es : List Entry). AreChecked key_of file c.args.at all es next old) left_is (inv.checked honest read))
-          told (c.in_ok-pages.ensures.rows told.0 honest (inv.kept honest read) (subst (λ (f : List ℕ). IsWhole t.schema (key_of t.schema) f (page_at c.args.at t.first_page) t.pages told.0) (sym inv.stays.same) told.1))
+          (subst (λ (es : List Entry). AreChecked key_of file c.args.at all es next old) left_is (inv.checked honest))
+          told (c.in_ok-pages.ensures.rows told.0 honest (subst (λ (f : List ℕ). IsWhole t.schema (key_of t.schema) f (page_at c.args.at t.first_page) t.pages told.0) (sym inv.stays.same) told.1))
           c.in_ok-push_table.ensures.items;
     }

@@ -1,7 +1,6 @@
 use Rattle.std.proofs.Common.{◌≡◌, true, map}
 use Rattle.std.specs.Prelude.{IsTrue}
 use Rattle.drda_disk.specs.Disk.{Stays}
-use Rattle.row_pages.specs.Keeping.{AreRead}
 use Rattle.checkpoint_writer.specs.Catalogue.{entry_of}
 use Rattle.store_check.specs.Listed.{are_listed}
 use Rattle.store_check.proofs.Listed.{AreFound}
@@ -9,9 +8,8 @@ use Rattle.store_check.proofs.listing.check_catalogue.Given as goal
 
 abbrev pub invariant-loop-page : goal.invariant-loop-page
 invariant-loop-page g l = record {
-  stays : Stays (g.D.Disk.life l.fn.disk) (g.D.Disk.life l.disk);
-  faults : (g.D.Disk.life l.disk).faults ≡ (g.D.Disk.life l.fn.disk).faults;
-  kept : IsTrue g.D.Disk.is_modelled → AreRead l.fn.cache (g.D.Disk.life l.fn.disk).seen → AreRead l.cache (g.D.Disk.life l.disk).seen;
+  stays : Stays (g.D.Disk.life l.fn.pager) (g.D.Disk.life l.pager);
+  faults : (g.D.Disk.life l.pager).faults ≡ (g.D.Disk.life l.fn.pager).faults;
   listed : are_listed l.last (map entry_of l.tables.items) ≡ true;
-  found : IsTrue g.D.Disk.is_modelled → AreRead l.fn.cache (g.D.Disk.life l.fn.disk).seen → AreFound (g.D.Disk.life l.fn.disk).seen l.at l.page (map entry_of l.tables.items);
+  found : IsTrue g.D.Disk.is_modelled → AreFound (g.D.Disk.life l.fn.pager).seen l.at l.page (map entry_of l.tables.items);
 }

@@ -11,11 +11,11 @@ none_left [] is = cc
 none_left (row ∷ rows) is = absurd (omega (arith, is))
 
 pub returns-then-len-eq0-clause-damaged : goal.returns-then-len-eq0-clause-damaged
-returns-then-len-eq0-clause-damaged g c honest read =
-    no_rows c.in_ok-page.page.now _ (c.in_ok-page.ensures.page honest read) (none_left c.in_ok-page.page.now.rows (omega (arith, c.len.ensures, c.if-len-eq0.true)))
+returns-then-len-eq0-clause-damaged g c honest =
+    no_rows c.in_ok-page.page.now _ (c.in_ok-page.ensures.page honest) (none_left c.in_ok-page.page.now.rows (omega (arith, c.len.ensures, c.if-len-eq0.true)))
 
 pub returns-in-Ok-clause-rows : goal.returns-in-Ok-clause-rows
-returns-in-Ok-clause-rows g c page honest read is =
+returns-in-Ok-clause-rows g c page honest is =
     let key_of = g.K.RowKeys.key_of c.args.keys.now in
-    let same = one_page c.in_ok-page.page.now (record { kind = kind.Rows; rows = page }) _ (c.in_ok-page.ensures.page honest read) is in
+    let same = one_page c.in_ok-page.page.now (record { kind = kind.Rows; rows = page }) _ (c.in_ok-page.ensures.page honest) is in
     subst (λ (p : Page). Passes key_of p.rows c.args.changes.now c.push_page.new.changes c.args.rows.now c.push_page.new.rows) same c.in-Ok.ensures

@@ -1,5 +1,4 @@
-use Rattle.std.proofs.Common.{rules, ◌≡◌, ◌+◌, ◌≤◌, List, [], ◌∷◌, ◌++◌, length, ◌∙◌, ap, subst, arith, refl, sym, take}
-use Rattle.drda_disk.specs.declared.region.Region.{Region}
+use Rattle.std.proofs.Common.{rules, ◌≡◌, ◌+◌, ◌≤◌, List, [], ◌∷◌, ◌++◌, length, ◌∙◌, ap, subst, arith, refl}
 use Rattle.drda_disk.specs.Disk.{LeavesOnly}
 use Rattle.unit_journal.specs.Journal.{IsSettled, region_of, room_of}
 use Rattle.unit_journal.specs.Record.{Entry, laid as spelled}
@@ -25,7 +24,6 @@ returns-in-Ok-clause-ok g c records are =
       layout = refl;
       room = omega (arith, told.room, size, are.holds, are.releases);
       held = omega (arith, told.held, are.holds, are.releases);
-      cache = c.keep_pages.ensures (life (disk_of old)).seen (life c.append_group.new.disk).seen (ap (λ (r : Region). take r.at (life c.append_group.new.disk).seen) told.region ∙ told.others.before ∙ sym (ap (λ (r : Region). take r.at (life (disk_of old)).seen) told.region));
       was_going = c.requires.going;
       faults = told.cause;
       going = c.requires.going;

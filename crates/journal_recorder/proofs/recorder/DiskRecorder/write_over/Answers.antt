@@ -47,8 +47,8 @@ returns-in-Ok-clause-pages g c there =
     let old = c.args.self.now in
     let told = c.in-Ok.ensures in
     let s = c.in-Ok.relaid.switched in
-    let new : DiskRecorder g.row.D.Denot = record old { disk = c.write_checkpoint.new.disk; cache = c.write_checkpoint.new.cache; journal = s.journal; layout = Two } in
-    switched g.D.Disk.is_modelled g.D.Disk.life old new c.args.tables.now.tables c.requires.pages told.size c.requires.going c.args.active.now c.requires.active told.kept there
+    let new : DiskRecorder g.row.D.Denot = record old { pager = c.write_checkpoint.new.disk; journal = s.journal; layout = Two } in
+    switched g.D.Disk.is_modelled g.D.Disk.life old new c.args.tables.now.tables c.requires.pages told.size c.requires.going c.args.active.now c.requires.active there
     c.relaid.new.self.tables s (store_in c.args.tables.now) (entries_of c.args.records.now) c.args.held refl (c.relaid.ensures.inside s.active.region.at told.inside_half) told.front
     (λ from end away. c.relaid.ensures.apart from end (told.apart from end away)) told.done (λ rests apart. c.relaid.ensures.stand (g.D.Disk.life c.write_checkpoint.new.disk).seen (told.stand rests apart))
 
@@ -75,8 +75,8 @@ pub returns-in-Err-NoMemory-clause-pages : goal.returns-in-Err-NoMemory-clause-p
 returns-in-Err-NoMemory-clause-pages g c there =
     let old = c.args.self.now in
     let told = c.in-Err-NoMemory.ensures in
-    let new : DiskRecorder g.row.D.Denot = record old { disk = c.write_checkpoint.new.disk; cache = c.write_checkpoint.new.cache } in
-    refused g.D.Disk.is_modelled g.D.Disk.life old new c.args.tables.now.tables c.requires.pages told.size c.requires.going c.args.active.now c.requires.active told.kept there refl (rw c.in-Err-NoMemory.field-0-is at told.goes_on)
+    let new : DiskRecorder g.row.D.Denot = record old { pager = c.write_checkpoint.new.disk } in
+    refused g.D.Disk.is_modelled g.D.Disk.life old new c.args.tables.now.tables c.requires.pages told.size c.requires.going c.args.active.now c.requires.active there refl (rw c.in-Err-NoMemory.field-0-is at told.goes_on)
 
 pub returns-in-Err-Full-clause-told : goal.returns-in-Err-Full-clause-told
 returns-in-Err-Full-clause-told g c =
@@ -89,7 +89,7 @@ returns-in-Err-Full-clause-told g c =
     let es = entries_of c.args.records.now in
     let hold : ℕ = c.args.held in
     let told = c.in-Err-Full.ensures in
-    let new : DiskRecorder g.row.D.Denot = record old { disk = c.write_checkpoint.new.disk; cache = c.write_checkpoint.new.cache } in
+    let new : DiskRecorder g.row.D.Denot = record old { pager = c.write_checkpoint.new.disk } in
     let of = of_store modelled life old c.args.active.now c.requires.active c.args.tables.now.tables c.requires.pages c.requires.going in (
       record {
         stays = record { size = told.size; made = refl };
@@ -109,8 +109,8 @@ pub returns-in-Err-Full-clause-pages : goal.returns-in-Err-Full-clause-pages
 returns-in-Err-Full-clause-pages g c there =
     let old = c.args.self.now in
     let told = c.in-Err-Full.ensures in
-    let new : DiskRecorder g.row.D.Denot = record old { disk = c.write_checkpoint.new.disk; cache = c.write_checkpoint.new.cache } in
-    refused g.D.Disk.is_modelled g.D.Disk.life old new c.args.tables.now.tables c.requires.pages told.size c.requires.going c.args.active.now c.requires.active told.kept there refl (rw c.in-Err-Full.field-0-is at told.goes_on)
+    let new : DiskRecorder g.row.D.Denot = record old { pager = c.write_checkpoint.new.disk } in
+    refused g.D.Disk.is_modelled g.D.Disk.life old new c.args.tables.now.tables c.requires.pages told.size c.requires.going c.args.active.now c.requires.active there refl (rw c.in-Err-Full.field-0-is at told.goes_on)
 
 pub returns-in-Err-DeviceFailed-clause-told : goal.returns-in-Err-DeviceFailed-clause-told
 returns-in-Err-DeviceFailed-clause-told g c =
@@ -134,7 +134,7 @@ returns-in-Err-DeviceFailed-clause-told g c =
 pub returns-in-Err-DeviceFailed-clause-pages : goal.returns-in-Err-DeviceFailed-clause-pages
 returns-in-Err-DeviceFailed-clause-pages g c there =
     let old = c.args.self.now in
-    let new : DiskRecorder g.row.D.Denot = record old { disk = c.write_checkpoint.new.disk; cache = c.write_checkpoint.new.cache; is_failed = true } in
+    let new : DiskRecorder g.row.D.Denot = record old { pager = c.write_checkpoint.new.disk; is_failed = true } in
     failed g.D.Disk.is_modelled g.D.Disk.life old new c.args.tables.now.tables c.requires.pages c.in-Err-DeviceFailed.ensures.size refl refl
 
 pub returns-in-Err-Damaged-clause-told : goal.returns-in-Err-Damaged-clause-told
@@ -158,5 +158,5 @@ returns-in-Err-Damaged-clause-told g c =
 pub returns-in-Err-Damaged-clause-pages : goal.returns-in-Err-Damaged-clause-pages
 returns-in-Err-Damaged-clause-pages g c there =
     let old = c.args.self.now in
-    let new : DiskRecorder g.row.D.Denot = record old { disk = c.write_checkpoint.new.disk; cache = c.write_checkpoint.new.cache; is_failed = true } in
+    let new : DiskRecorder g.row.D.Denot = record old { pager = c.write_checkpoint.new.disk; is_failed = true } in
     failed g.D.Disk.is_modelled g.D.Disk.life old new c.args.tables.now.tables c.requires.pages c.in-Err-Damaged.ensures.size refl refl

@@ -8,16 +8,16 @@ use Rattle.paged_tables.proofs.Shown.{form_nowhere, form_there}
 use Rattle.paged_tables.proofs.stored_table.StoredTable.get.Goals as goal
 
 pub returns-in-Ok-Some-clause-found : goal.returns-in-Ok-Some-clause-found
-returns-in-Ok-Some-clause-found g c = λ modelled read is.
+returns-in-Ok-Some-clause-found g c = λ modelled is.
     let stored : IsStored c.args.self.now = subst (λ (t : Stored). IsStored t) c.self.view_is c.self.invariant in
     subst (λ (o : Option (List ℕ)). IfOk c.row_at.result (λ row. copied row ≡ o))
     (ap (λ (f : List ℕ). row_at f (rows_in c.args.self.now)) c.as_slice.ensures.value
     ∙ found_at c.args.self.now.schema c.args.key.now c.in-Ok-Some.form.items (rows_in c.args.self.now)
     (form_there c.deref.result.now c.args.self.now.schema c.args.key.now c.in-Ok-Some.field-0 c.in-Ok-Some.form (c.deref.ensures ∙ ap (λ (t : Stored). t.schema) c.self.view_is) c.in-Ok-Some.field-0-is c.in-Ok-Some.ensures) stored.forms)
-    (c.row_at.ensures.found modelled read is)
+    (c.row_at.ensures.found modelled is)
 
 pub returns-in-Ok-None-clause-found : goal.returns-in-Ok-None-clause-found
-returns-in-Ok-None-clause-found g c = λ modelled read is.
+returns-in-Ok-None-clause-found g c = λ modelled is.
     let stored : IsStored c.args.self.now = subst (λ (t : Stored). IsStored t) c.self.view_is c.self.invariant in
     not_found_at c.args.self.now.schema c.args.key.now (rows_in c.args.self.now)
     (form_nowhere c.deref.result.now c.args.self.now.schema c.args.key.now c.in-Ok-None.field-0 (c.deref.ensures ∙ ap (λ (t : Stored). t.schema) c.self.view_is) c.in-Ok-None.field-0-is c.in-Ok-None.ensures) stored.forms

@@ -10,10 +10,10 @@ use Rattle.paged_tables.proofs.Reading.{read_there}
 use Rattle.paged_tables.proofs.stored_table.StoredTable.scan.Goals as goal
 
 pub returns-in-Ok-clause-rows : goal.returns-in-Ok-clause-rows
-returns-in-Ok-clause-rows g c = λ modelled read is.
+returns-in-Ok-clause-rows g c = λ modelled is.
     read_there (λ rows. c.scan_into.new.rows ≡ c.new-rows.result ++ without_keys rows)
     (record { schema = arc_value c.self.inside.schema; is_created = c.self.inside.is_created; places = c.self.inside.rows.places; base = keyed_rows (row_form (arc_value c.self.inside.schema)) c.self.inside.base.listed.value; changes = c.self.inside.rows.overlay })
-    c.args.self.now c.deref.result.now (g.D.Disk.life c.args.disk.now).seen c.self.view_is c.deref.ensures is
-    (λ pages stand. c.in-Ok.ensures.rows pages modelled read stand)
+    c.args.self.now c.deref.result.now (g.D.Disk.life c.args.pager.now).seen c.self.view_is c.deref.ensures is
+    (λ pages stand. c.in-Ok.ensures.rows pages modelled stand)
     ∙ ap (λ (l : List (List ℕ)). l ++ without_keys (rows_in c.args.self.now)) c.new-rows.ensures
     ∙ values_at_keys c.args.self.now.schema (rows_in c.args.self.now)

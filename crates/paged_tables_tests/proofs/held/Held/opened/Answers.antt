@@ -9,6 +9,6 @@ add-requires-clause-rows g c = no_rows c.args.schema c.none.result.listed.value 
 
 pub invariant_of-result : goal.invariant_of-result
 invariant_of-result g c =
-    let size = length (g.D.Disk.life c.args.disk).seen in
+    let size = length (g.D.Disk.life c.args.pager).seen in
     c.add.ensures.pages.inside size (subst (λ (s : Tables). LieInside size s) (sym c.new-tables.ensures.tables) tt)
     (no_pages size c.new-2.result (ap (λ p. p.at) c.new-2.ensures) (ap (λ p. p.keys) c.new-2.ensures ∙ ap (map (λ key. key.items)) c.new.ensures.items))

@@ -1,8 +1,8 @@
 use Rattle.std.proofs.Common.{sym, subst, ap}
 use Rattle.std.specs.Prelude.{IsSome, nat_eq}
 use Rattle.std.specs.Map.{lookup}
-use Rattle.row_pages.specs.Keeping.{AreRead, BeginUpTo, Kept}
-use Rattle.row_pages.proofs.KeptPages.{begin_later, put_begins, put_read, put_there}
+use Rattle.row_pages.specs.Keeping.{AreRead, BeginWithin, Kept}
+use Rattle.row_pages.proofs.KeptPages.{begin_wider, put_begins, put_read, put_there}
 use Rattle.row_pages.proofs.cache.PageCache.keep.Goals as goal
 
 pub returns-in-Ok-clause-kept : goal.returns-in-Ok-clause-kept
@@ -17,10 +17,14 @@ returns-in-Ok-clause-there c =
 
 pub invariant_of-self : goal.invariant_of-self
 invariant_of-self c =
-    subst (BeginUpTo c.later_of-self-inside.result) (sym (ap (λ p. p.entries) c.in-Ok.ensures.entries))
-    (put_begins c.self.inside.pages c.args.at c.args.page c.self.inside.last c.later_of-self-inside.result c.self.invariant c.later_of-self-inside.ensures.first c.later_of-self-inside.ensures.second)
+    let first = c.earlier_of-self-inside in
+    let last = c.later_of-self-inside in
+    subst (BeginWithin first.result last.result) (sym (ap (λ p. p.entries) c.in-Ok.ensures.entries))
+    (put_begins c.self.inside.pages c.args.at c.args.page c.self.inside.first c.self.inside.last first.result last.result c.self.invariant first.ensures.first first.ensures.second last.ensures.first last.ensures.second)
 
 pub invariant_of-self-2 : goal.invariant_of-self-2
 invariant_of-self-2 c =
-    subst (BeginUpTo c.later_of-self-inside.result) (sym (ap (λ p. p.entries) c.in-Err.ensures.err))
-    (begin_later c.self.inside.last c.later_of-self-inside.result c.self.inside.pages.entries c.self.invariant c.later_of-self-inside.ensures.first)
+    let first = c.earlier_of-self-inside in
+    let last = c.later_of-self-inside in
+    subst (BeginWithin first.result last.result) (sym (ap (λ p. p.entries) c.in-Err.ensures.err))
+    (begin_wider c.self.inside.first c.self.inside.last first.result last.result c.self.inside.pages.entries c.self.invariant first.ensures.first last.ensures.first)

@@ -1,7 +1,7 @@
 use Rattle.std.proofs.Common.{sym, subst, ap, ◌∙◌}
 use Rattle.std.specs.Prelude.{IsSome, nat_eq}
 use Rattle.std.specs.Map.{lookup}
-use Rattle.row_pages.specs.Keeping.{AreRead, BeginUpTo, Kept}
+use Rattle.row_pages.specs.Keeping.{AreRead, BeginWithin, Kept}
 use Rattle.row_pages.proofs.KeptPages.{promoted_begin, promoted_read, promoted_there}
 use Rattle.row_pages.proofs.cache.PageCache.promote.Goals as goal
 
@@ -17,5 +17,5 @@ returns-clause-there c there =
 
 pub invariant_of-self : goal.invariant_of-self
 invariant_of-self c =
-    subst (BeginUpTo c.self.inside.last) (sym (ap (λ p. p.entries) c.promote.ensures.entries))
-    (promoted_begin c.args.at c.self.inside.last c.self.inside.pages.entries c.self.invariant)
+    subst (BeginWithin c.self.inside.first c.self.inside.last) (sym (ap (λ p. p.entries) c.promote.ensures.entries))
+    (promoted_begin c.args.at c.self.inside.first c.self.inside.last c.self.inside.pages.entries c.self.invariant)

@@ -14,10 +14,10 @@ use Rattle.table_map.proofs.Found.{none_before, found_in, in_order, lies_at}
 use Rattle.table_map.proofs.pages.TablePages.row.Goals as goal
 
 pub returns-then-place-eq0-clause-found : goal.returns-then-place-eq0-clause-found
-returns-then-place-eq0-clause-found g c pages honest read is =
+returns-then-place-eq0-clause-found g c pages honest is =
     let keys_is = ap (λ (l : List (Vec ℕ)). map (λ k. k.items) l) c.deref.ensures.value ∙ ap (λ (p : Places). p.keys) c.self.view_is in
     let place = subst (λ (l : List (List ℕ)). IsPlace c.args.key.now l c.place_of-place.result) keys_is c.place_of-place.ensures in
-    sym (none_before (g.K.RowKeys.key_of c.args.keys.now) c.args.key.now c.args.self.now pages (g.D.Disk.life c.args.disk.now).seen is c.place_of-place.result place c.if-place-eq0.true)
+    sym (none_before (g.K.RowKeys.key_of c.args.keys.now) c.args.key.now c.args.self.now pages (g.D.Disk.life c.args.pager.now).seen is c.place_of-place.result place c.if-place-eq0.true)
 
 pub overflow_mul-at : goal.overflow_mul-at
 overflow_mul-at g c =
@@ -25,22 +25,22 @@ overflow_mul-at g c =
     omega (arith, within, ap length c.deref.ensures.value, c.self.invariant)
 
 pub returns-clause-found : goal.returns-clause-found
-returns-clause-found g c pages honest read is =
+returns-clause-found g c pages honest is =
     let key_of = g.K.RowKeys.key_of c.args.keys.now in
     let q = c.args.key.now in
-    let file = (g.D.Disk.life c.args.disk.now).seen in
+    let file = (g.D.Disk.life c.args.pager.now).seen in
     let n = c.place_of-place.result in
     let keys_is = ap (λ (l : List (Vec ℕ)). map (λ k. k.items) l) c.deref.ensures.value ∙ ap (λ (p : Places). p.keys) c.self.view_is in
     let place = subst (λ (l : List (List ℕ)). IsPlace q l n) keys_is c.place_of-place.ensures in
     let next : n ≡ suc (n - 1) = omega (arith, c.if-place-eq0.false) in
     let there = subst (λ k. IsPage (record { kind = kind.Rows; rows = get_or pages (n - 1) [] }) (part file (k + 8192 * (n - 1)) 8192)) (sym (ap (λ (p : Places). p.at) c.self.view_is))
     (lies_at key_of q c.args.self.now pages file is n place (n - 1) next) in
-    subst (λ (o : Option (List ℕ)). IfOk c.row_in_page.result (λ row. copied row ≡ o)) (sym (found_in key_of q c.args.self.now pages file is n place (n - 1) next)) (c.row_in_page.ensures.found (get_or pages (n - 1) []) honest read there (in_order key_of q c.args.self.now pages file is n place (n - 1) next))
+    subst (λ (o : Option (List ℕ)). IfOk c.row_in_page.result (λ row. copied row ≡ o)) (sym (found_in key_of q c.args.self.now pages file is n place (n - 1) next)) (c.row_in_page.ensures.found (get_or pages (n - 1) []) honest there (in_order key_of q c.args.self.now pages file is n place (n - 1) next))
 
 pub returns-clause-damaged : goal.returns-clause-damaged
 returns-clause-damaged g c honest =
     let q = c.args.key.now in
-    let file = (g.D.Disk.life c.args.disk.now).seen in
+    let file = (g.D.Disk.life c.args.pager.now).seen in
     let n = c.place_of-place.result in
     let keys_is = ap (λ (l : List (Vec ℕ)). map (λ k. k.items) l) c.deref.ensures.value ∙ ap (λ (p : Places). p.keys) c.self.view_is in
     let place = subst (λ (l : List (List ℕ)). IsPlace q l n) keys_is c.place_of-place.ensures in

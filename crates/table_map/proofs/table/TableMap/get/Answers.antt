@@ -12,7 +12,7 @@ use Rattle.table_map.proofs.Told.{told}
 use Rattle.table_map.proofs.table.TableMap.get.Goals as goal
 
 pub returns-in-Some-Some-clause-found : goal.returns-in-Some-Some-clause-found
-returns-in-Some-Some-clause-found g c pages honest read is =
+returns-in-Some-Some-clause-found g c pages honest is =
     let base = keyed_rows (g.K.RowKeys.key_of c.args.keys.now) (rows_over pages) in
     let word = rw c.in-Some-Some.field-0-is at c.in-Some-Some.ensures in
     subst (λ (o : Option (List ℕ)). IfOk c.copy_row.result (λ row. copied row ≡ o))
@@ -20,26 +20,26 @@ returns-in-Some-Some-clause-found g c pages honest read is =
     (rw c.in-Some-Some.field-0-is at c.copy_row.ensures.row)
 
 pub returns-in-Some-None-clause-found : goal.returns-in-Some-None-clause-found
-returns-in-Some-None-clause-found g c pages honest read is =
+returns-in-Some-None-clause-found g c pages honest is =
     let base = keyed_rows (g.K.RowKeys.key_of c.args.keys.now) (rows_over pages) in
     let word = rw c.in-Some-None.field-0-is at c.in-Some-None.ensures in
     told c.args.key.now base (changes_of c.args.self.now.overlay) (Some None) is.order (word ∙ ap (λ (t : Table). row_at c.args.key.now (changes_of t.overlay)) c.self.view_is)
 
 pub returns-in-None-clause-found : goal.returns-in-None-clause-found
-returns-in-None-clause-found g c pages honest read is =
+returns-in-None-clause-found g c pages honest is =
     let key_of = g.K.RowKeys.key_of c.args.keys.now in
     let base = keyed_rows key_of (rows_over pages) in
-    let stored = subst (λ (p : Places). IsStored key_of p pages (g.D.Disk.life c.args.disk.now).seen) (sym (ap (λ (t : Table). t.places) c.self.view_is)) is in
+    let stored = subst (λ (p : Places). IsStored key_of p pages (g.D.Disk.life c.args.pager.now).seen) (sym (ap (λ (t : Table). t.places) c.self.view_is)) is in
     subst (λ (o : Option (List ℕ)). IfOk c.row.result (λ row. copied row ≡ o))
     (told c.args.key.now base (changes_of c.args.self.now.overlay) None is.order (c.in-None.ensures ∙ ap (λ (t : Table). row_at c.args.key.now (changes_of t.overlay)) c.self.view_is))
-    (c.row.ensures.found pages honest read stored)
+    (c.row.ensures.found pages honest stored)
 
 pub returns-in-Some-Some-clause-damaged : goal.returns-in-Some-Some-clause-damaged
 returns-in-Some-Some-clause-damaged g c honest = only_memory _ c.copy_row.result c.copy_row.ensures.fault
 
 pub returns-in-None-clause-damaged : goal.returns-in-None-clause-damaged
 returns-in-None-clause-damaged g c honest =
-    let file = (g.D.Disk.life c.args.disk.now).seen in
+    let file = (g.D.Disk.life c.args.pager.now).seen in
     where_too _ _ c.row.result
     (λ lacks. (
       sym (c.in-None.ensures ∙ ap (λ (t : Table). row_at c.args.key.now (changes_of t.overlay)) c.self.view_is),

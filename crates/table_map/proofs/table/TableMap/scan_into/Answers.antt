@@ -17,30 +17,29 @@ loop-page-preserved g c =
     let inv = c.loop-page.invariant in
     let key_of = g.K.RowKeys.key_of c.args.keys.now in
     let places = c.args.self.now.places in
-    let file = (g.D.Disk.life c.args.disk.now).seen in
+    let file = (g.D.Disk.life c.args.pager.now).seen in
     let i = c.loop-page.page in
     let at_is = c.at-at.ensures.at ∙ ap (λ (t : Table). t.places.at) c.self.view_is in
     record {
       stays = Stays-trans _ _ _ inv.stays c.scan_page.ensures.stays;
       faults = c.in_ok-scan_page.ensures.cause ∙ inv.faults;
-      kept = λ honest read. c.scan_page.ensures.kept honest (inv.kept honest read);
-      rows = λ pages honest read is.
-          let held = inv.rows pages honest read is in
+      rows = λ pages honest is.
+          let held = inv.rows pages honest is in
           let low : i < length pages = omega (arith, c.loop-page-test.true, c.count-page-end.ensures, ap (λ (t : Table). length t.places.keys) c.self.view_is, ap length is.first, many_first key_of pages) in
-          let there = subst (λ n. IsPage (record { kind = kind.Rows; rows = get_or pages i [] }) (part (g.D.Disk.life c.loop-page.disk).seen (n + 8192 * i) 8192)) (sym at_is)
+          let there = subst (λ n. IsPage (record { kind = kind.Rows; rows = get_or pages i [] }) (part (g.D.Disk.life c.loop-page.pager).seen (n + 8192 * i) 8192)) (sym at_is)
           (subst (λ (f : List ℕ). IsPage (record { kind = kind.Rows; rows = get_or pages i [] }) (part f (places.at + 8192 * i) 8192)) (sym inv.stays.same) (page_there key_of [] file places.at pages i is.stand low)) in
-          page_passed key_of pages i (i + 1) c.loop-page.changes c.scan_page.new.changes c.loop-page.rows c.scan_page.new.rows _ low (add-one i) held (c.in_ok-scan_page.ensures.rows (get_or pages i []) honest (inv.kept honest read) there);
+          page_passed key_of pages i (i + 1) c.loop-page.changes c.scan_page.new.changes c.loop-page.rows c.scan_page.new.rows _ low (add-one i) held (c.in_ok-scan_page.ensures.rows (get_or pages i []) honest there);
     }
 
 pub returns-clause-rows : goal.returns-clause-rows
-returns-clause-rows g c pages honest read is =
+returns-clause-rows g c pages honest is =
     let key_of = g.K.RowKeys.key_of c.args.keys.now in
-    let held = c.loop-page.invariant.rows pages honest read is in
+    let held = c.loop-page.invariant.rows pages honest is in
     let past : length pages ≤ c.loop-page.page = omega (arith, c.loop-page-test.false, c.count-page-end.ensures, ap (λ (t : Table). length t.places.keys) c.self.view_is, ap length is.first, many_first key_of pages) in
     on_ok_weaker c.push_rest.result (λ last. all_passed key_of pages c.loop-page.page c.loop-page.changes c.loop-page.rows c.push_rest.new.rows _ past held last) c.push_rest.ensures.rows
 
 pub returns-in_err-scan_page-clause-damaged : goal.returns-in_err-scan_page-clause-damaged
-returns-in_err-scan_page-clause-damaged g c honest read =
+returns-in_err-scan_page-clause-damaged g c honest =
     let inv = c.loop-page.invariant in
     let places = c.args.self.now.places in
     let i = c.loop-page.page in
@@ -49,7 +48,7 @@ returns-in_err-scan_page-clause-damaged g c honest read =
     (λ none. record {
       number = i;
       within = omega (arith, c.loop-page-test.true, c.count-page-end.ensures, ap (λ (t : Table). length t.places.keys) c.self.view_is);
-      is = subst (λ n. HasNoRows (part (g.D.Disk.life c.args.disk.now).seen (n + 8192 * i) 8192)) at_is
+      is = subst (λ n. HasNoRows (part (g.D.Disk.life c.args.pager.now).seen (n + 8192 * i) 8192)) at_is
           (subst (λ (f : List ℕ). HasNoRows (part f (c.at-at.result + 8192 * i) 8192)) inv.stays.same none);
     })
-    (c.scan_page.ensures.damaged honest (inv.kept honest read))
+    (c.scan_page.ensures.damaged honest)
