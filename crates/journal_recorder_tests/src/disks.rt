@@ -31,6 +31,7 @@ fn may_be_a_journal<D: Disk>(disk: &D, region: Region) -> bool
 
 // The journal of a region, and its records.
 fn journal_on(alloc: Global, disk: &mut MemDisk, region: Region) -> Option<(Journal, Vec<Record>)> {
+    disk.sync().ok()?;
     if !may_be_a_journal(disk, region) {
         return None;
     }

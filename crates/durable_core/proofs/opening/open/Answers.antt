@@ -1,11 +1,20 @@
-use Rattle.durable_core.proofs.Answered.{finds, stood}
+use Rattle.std.proofs.Common.{inr, ℕ, List, sym, ◌∙◌, ap, subst}
+use Rattle.std.specs.Prelude.{IfOk}
+use Rattle.drda_disk.proofs.Moments.{Stays-trans}
+use Rattle.recovery.specs.Opens.{OpensTo}
+use Rattle.durable_core.specs.Opening.{OpensStore, StoodThere, disk_in}
+use Rattle.durable_core.proofs.Answered.{syncs_first}
 use Rattle.durable_core.proofs.opening.open.Goals as goal
 
+pub returns-in-Ok-clause-first : goal.returns-in-Ok-clause-first
+returns-in-Ok-clause-first g c =
+    syncs_first g.D.Disk.life g.D.Disk.syncs c.args.disk c.sync.new.self c.in-Ok.ensures.call c.sync.ensures.stays c.in-Ok.ensures.durable c.open_synced.result c.open_synced.ensures.stays
+
 pub returns-in-Ok-clause-opens : goal.returns-in-Ok-clause-opens
-returns-in-Ok-clause-opens g c name d is opens =
-    finds g.D.Disk.is_modelled (g.D.Disk.life c.read_store.new.disk) (g.D.Disk.life c.args.disk).seen c.in-Ok.ensures.stays.same c.in-Ok.found c.in-Ok.ensures.found
-    c.images_open_to_one_state.ensures name d is opens c.begin.result c.begin.ensures.ok c.begin.ensures.err
+returns-in-Ok-clause-opens g c name d is opens = c.open_synced.ensures.opens name d is (subst (λ (i : List ℕ). OpensTo name d i) (sym c.sync.ensures.stays.same) opens)
 
 pub returns-in-Ok-clause-found : goal.returns-in-Ok-clause-found
-returns-in-Ok-clause-found g c is =
-    stood g.D.Disk.is_modelled (g.D.Disk.life c.read_store.new.disk) (g.D.Disk.life c.args.disk).seen c.in-Ok.ensures.stays.same c.in-Ok.found c.in-Ok.ensures.found is c.begin.result c.begin.ensures.ok c.begin.ensures.room c.begin.ensures.layout
+returns-in-Ok-clause-found g c is = subst (λ (i : List ℕ). IfOk c.open_synced.result (StoodThere i)) c.sync.ensures.stays.same (c.open_synced.ensures.found is)
+
+pub returns-in-Ok-clause-tells : goal.returns-in-Ok-clause-tells
+returns-in-Ok-clause-tells g c is = subst (λ (i : List ℕ). OpensStore c.open_synced.result i) c.sync.ensures.stays.same (c.open_synced.ensures.tells is)

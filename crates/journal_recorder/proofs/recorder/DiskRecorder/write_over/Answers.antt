@@ -1,7 +1,6 @@
 -- What was written is the store's, whose active half was read.
 use Rattle.std.proofs.Common.{◌≡◌, ◌≤◌, ◌+◌, ℕ, length, true, inl, inr, refl}
 use Rattle.half_store.specs.Active.{Store}
-use Rattle.half_store.specs.Layout.{half_len}
 use Rattle.half_store.specs.declared.header.Layout.TheVariants.{Two}
 use Rattle.drda_disk.specs.Disk.{LeavesOnly}
 use Rattle.unit_journal.specs.Record.{entries_of}
