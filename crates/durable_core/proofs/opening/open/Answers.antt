@@ -1,8 +1,8 @@
-use Rattle.std.proofs.Common.{inr, ℕ, List, sym, ◌∙◌, ap, subst}
+use Rattle.std.proofs.Common.{inr, ℕ, List, refl, sym, subst}
 use Rattle.std.specs.Prelude.{IfOk}
 use Rattle.drda_disk.proofs.Moments.{Stays-trans}
 use Rattle.recovery.specs.Opens.{OpensTo}
-use Rattle.durable_core.specs.Opening.{OpensStore, StoodThere, disk_in}
+use Rattle.durable_core.specs.Opening.{CountsOpen, OpensStore, StoodThere, disk_in}
 use Rattle.durable_core.proofs.Answered.{syncs_first}
 use Rattle.durable_core.proofs.opening.open.Goals as goal
 
@@ -18,3 +18,13 @@ returns-in-Ok-clause-found g c is = subst (λ (i : List ℕ). IfOk c.open_synced
 
 pub returns-in-Ok-clause-tells : goal.returns-in-Ok-clause-tells
 returns-in-Ok-clause-tells g c is = subst (λ (i : List ℕ). OpensStore c.open_synced.result i) c.sync.ensures.stays.same (c.open_synced.ensures.tells is)
+
+pub returns-in-Ok-clause-stays : goal.returns-in-Ok-clause-stays
+returns-in-Ok-clause-stays g c = Stays-trans _ _ _ c.sync.ensures.stays c.open_synced.ensures.stays
+
+pub returns-in-Ok-clause-cause : goal.returns-in-Ok-clause-cause
+returns-in-Ok-clause-cause g c =
+    subst (λ (n : ℕ). CountsOpen c.open_synced.result n (g.D.Disk.life (disk_in c.open_synced.result)).faults) c.in-Ok.ensures.faults c.open_synced.ensures.cause
+
+pub returns-in-Err-clause-first : goal.returns-in-Err-clause-first
+returns-in-Err-clause-first g c = inr (record { told = refl; call = c.in-Err.ensures.call })
