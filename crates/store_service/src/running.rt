@@ -49,9 +49,7 @@ pub fn run_store<D: Disk + Drop, R: Ready, W: Write>(
     calls_are_histories();
     machines_are_serial();
     match open(alloc, disk) {
-        Ok(core) => {
-            run_core(alloc, core, user, password, reader, writer)
-        }
+        Ok(core) => run_core(alloc, core, user, password, reader, writer),
         Err(refused) => (refused.disk, Err(refused.error)),
     }
 }
