@@ -1,5 +1,5 @@
 -- What a checkpoint makes of a core: nothing but its disk and the room of its journal changes.
-use Rattle.std.specs.Prelude.{◌≡◌, ◌<◌, ◌≤◌, ℕ, Bool, IsTrue, true, false, length, map, Result, Ok, Err}
+use Rattle.std.specs.Prelude.{◌≡◌, ◌+◌, ◌<◌, ℕ, Bool, IsTrue, true, false, length, map, Result, Ok, Err}
 use Rattle.drda_disk.specs.Disk.{Stays}
 use Rattle.half_store.specs.Layout.{half_len}
 use Rattle.half_store.specs.declared.header.Layout.TheVariants.{Two}

@@ -22,7 +22,7 @@ use Rattle.durable_core.proofs.Telling.{bad_page, handed_on, is_short, misplaced
 use Rattle.durable_core.proofs.opening.read_store.Goals as goal
 
 pub read_journal-requires-clause-settled : goal.read_journal-requires-clause-settled
-read_journal-requires-clause-settled g c = Only-stays _ _ c.in_ok-tables.ensures.stays (Only-stays _ _ c.in_ok-active.ensures.stays c.requires)
+read_journal-requires-clause-settled g c = Only-stays _ _ c.in_ok-tables.ensures.stays (Only-stays _ _ c.in_ok-active.ensures.stays c.requires.settled)
 
 pub returns-in_err-tables-clause-opens : goal.returns-in_err-tables-clause-opens
 returns-in_err-tables-clause-opens g c name d is opens =
