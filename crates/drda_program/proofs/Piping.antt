@@ -45,6 +45,7 @@ not_piped rdb login input before NoRoom is = absurd is
 module _ (sound : ImagesAreSound) (kept : OpeningsAreKept) (laws : SerialLaws) (rdb : List ℕ) (login : Login) (input before now : Option (List ℕ)) (outcome : Result (Unit {0}) Fault) (core : OnDisk MemDisk) where
   -- over the store that was just made
   by_answer : (disk : MemDisk) → is_rdb_name rdb ≡ true → IsFreshOver rdb disk core → AnswersOver true life_of core login input before outcome now → IsNotBegun outcome before now ⊎ RunsFresh rdb login input before outcome now
+  unfolding runs_on
   by_answer disk is made (inl (fault, reported, refused, silent)) =
       inl (subst (λ (w : Option (List ℕ)). IsNotBegun outcome before w) (sym silent)
       (subst (λ (r : Result (Unit {0}) Fault). IsNotBegun r before before) (sym reported)

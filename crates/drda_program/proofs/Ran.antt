@@ -44,7 +44,7 @@ module _ {D : Type 0} (modelled : Bool) (life : D → Life) where
   -- a run over a core that was opened over a disk, by a first call that was a sync
   module _ (sound : ImagesAreSound) (kept : OpeningsAreKept) (laws : SerialLaws) (syncs : D → Bool → D → Type 0) (login : Login) (input before now : Option (List ℕ)) (outcome : Result (Unit {0}) Fault) (disk : D) (core : OnDisk D)
       (over : IsOver modelled life disk core) (settles : SettlesFirst life syncs disk core.disk) where
-    pub runs_on : RunsOver modelled life core login input before outcome now → RunsOn modelled life syncs disk login input before outcome now
+    unfoldable pub runs_on : RunsOver modelled life core login input before outcome now → RunsOn modelled life syncs disk login input before outcome now
     runs_on ran = record {
       core = core;
       over = over;

@@ -97,7 +97,7 @@ module _ {D : Type 0} (modelled : Bool) (life : D → Life) where
     -- the run over the store of a path, if there is one
     abbrev pub PipesFile : (D → Bool → D → Type 0) → List ℕ → Login → F → Option (List ℕ) → Option (List ℕ) → Result (Unit {0}) Fault → F → Option (List ℕ) → Type 0
     PipesFile syncs path login files input before outcome files' now = ((fault : Fault) × (outcome ≡ Err fault) × IsTurnedBack modelled life calls files path fault files' × (now ≡ before))
-        ⊎ ((disk : D) × calls.opens files path (Some disk) files' × RunsOn syncs disk login input before outcome now)
+        ⊎ ((disk : D) × calls.opens files path (Some disk) files' × RunsOn modelled life syncs disk login input before outcome now)
 
     -- over the store of a path, or over one in memory
     abbrev pub PipesOver : (D → Bool → D → Type 0) → Option (List ℕ) → List ℕ → Login → F → Option (List ℕ) → Option (List ℕ) → Result (Unit {0}) Fault → F → Option (List ℕ) → Type 0
