@@ -72,6 +72,9 @@ const NEW: Found = (2, 1, 2, [3, 0]);
 // What a store has, if it is one.
 fn found(alloc: Global, disk: &mut MemDisk) -> Option<Found> {
     let active = open(alloc, disk).ok()?;
+    let Ok(()) = disk.sync() else {
+        return None;
+    };
     let region = active.region;
     if region.length == 0 || region.length > STORE_BYTES || !lies_on(region, disk.size()) {
         return None;

@@ -28,6 +28,7 @@ use Rattle.store_check.specs.Checkpoint.{CheckpointsAreFramed, HasCheckpoint}
 use Rattle.store_check.specs.Half.{pages_of as pages_of_active}
 use Rattle.checkpoints.specs.Laying.{pages_with}
 use Rattle.checkpoints.specs.Moment.{IsAnew, IsNew, IsOld, Moment}
+use Rattle.checkpoints.specs.Room.{pages_of_catalogue, pages_of_tables}
 
 -- ---- a gate that is closed
 
@@ -99,9 +100,9 @@ module _ (base : List ℕ) (store : Store) (w : ImageWriter) (half : half_of w �
     end_active a behind same = omega (arith, behind.ends, ap (λ (s : Store). offset_of (half_bytes_of w) s.half) same)
 
     pub anew : (modelled : Bool) (disk : Life) (s : Switched) → IsSwitched modelled disk file (switched store w first catalogue) w s es held → store_of s.active ≡ switched store w first catalogue → IsBehindPages (half_bytes_of w) s.active
-        → held_of s.journal ≡ held → IsAnew modelled disk base store tables es held s
+        → held_of s.journal ≡ held → pages_of w ≡ pages_of_tables tables + pages_of_catalogue tables → IsAnew modelled disk base store tables es held s
     unfolding is_new
-    anew modelled disk s is same behind room = record {
+    anew modelled disk s is same behind room many = record {
       is = is_new disk.seen is.is;
       same = sym same;
       behind = subst (λ n. IsBehindPages n s.active) bytes behind;
@@ -111,6 +112,7 @@ module _ (base : List ℕ) (store : Store) (w : ImageWriter) (half : half_of w �
       begins = is.begins ∙ sym (at_active s.active behind same);
       ends = is.ends ∙ sym (end_active s.active behind same);
       room = room;
+      leaves = omega (arith, is.settled.next, is.begins, is.ends, is.is.room, room, many, bytes);
     }
 
 -- ---- the whole run
@@ -145,9 +147,9 @@ module _ (framed : CheckpointsAreFramed) (modelled : Bool) (old mid : Life) (bas
       (λ c m. there base store after now_writing.other now_writing.halves framed mid.seen first catalogue tables es held same_size now_writing.generation pages_there c m)
 
   pub image_anew : (new : Life) (s : Switched) → IsSwitched modelled new mid.seen (switched store after first catalogue) after s es held → store_of s.active ≡ switched store after first catalogue → IsBehindPages (half_bytes_of after) s.active
-      → held_of s.journal ≡ held → IsAnew modelled new base store tables es held s
-  image_anew new s done same behind room =
-      anew base store after now_writing.other now_writing.halves framed mid.seen first catalogue tables es held same_size now_writing.generation pages_there modelled new s done same behind room
+      → held_of s.journal ≡ held → pages_of after ≡ pages_of_tables tables + pages_of_catalogue tables → IsAnew modelled new base store tables es held s
+  image_anew new s done same behind room many =
+      anew base store after now_writing.other now_writing.halves framed mid.seen first catalogue tables es held same_size now_writing.generation pages_there modelled new s done same behind room many
 
 -- ---- a refusal
 
@@ -197,6 +199,7 @@ module _ (old mid : List ℕ) (store : Store) (some : 1 ≤ half_len (length old
     begins = is.begins;
     ends = is.ends;
     room = is.room;
+    leaves = is.leaves ∙ ap half_len torn.size;
   }
 
   -- the run from the beginning of an image on

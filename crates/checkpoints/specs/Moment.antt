@@ -7,13 +7,14 @@ use Rattle.half_store.specs.Layout.{half_len, offset_of, other_than}
 use Rattle.half_store.specs.Opened.{IsBehindPages, store_of}
 use Rattle.half_store.specs.Writing.{IsKept}
 use Rattle.half_store.specs.declared.header.Layout.TheVariants.{Two}
-use Rattle.unit_journal.specs.Journal.{IsSettled, held_of, region_of}
+use Rattle.unit_journal.specs.Journal.{IsSettled, held_of, region_of, room_of}
 use Rattle.unit_journal.specs.Record.{Entry}
 use Rattle.tables.specs.Tables.{Store as Tables}
 use Rattle.store_check.specs.Checkpoint.{HasCheckpoint}
 use Rattle.store_check.specs.Half.{pages_of}
 use Rattle.checkpoint_writer.specs.declared.ending.Switched.{Switched}
 use Rattle.checkpoints.specs.Holds.{Holds}
+use Rattle.checkpoints.specs.Room.{need_of}
 
 -- The disk gives back what was written, a crash leaves what is read, and that is a store with this active half.
 pub record Rests (modelled : Bool) (disk : Life) (store : Store) : Type 0 where
@@ -40,7 +41,8 @@ pub record IsNew (base : List ℕ) (store : Store) (tables : Tables) (es : List 
 abbrev pub Moment : List ℕ → Store → Tables → List Entry → ℕ → List ℕ → Type 0
 Moment base store tables es held image = IsOld base store image ⊎ IsNew base store tables es held image
 
--- The new half is there to stay, it is this one, and its journal goes on behind the records.
+-- The new half is there to stay, it is this one, and its journal goes on behind the records: its room is what the header, the
+-- pages, the records, the bytes held back and a gate leave of the half.
 pub record IsAnew (modelled : Bool) (disk : Life) (base : List ℕ) (store : Store) (tables : Tables) (es : List Entry) (held : ℕ) (s : Switched) : Type 0 where
   pub is : IsNew base store tables es held disk.seen
   pub same : is.new ≡ store_of s.active
@@ -50,6 +52,7 @@ pub record IsAnew (modelled : Bool) (disk : Life) (base : List ℕ) (store : Sto
   pub begins : (region_of s.journal).at ≡ s.active.region.at
   pub ends : end_of (region_of s.journal) ≡ end_of s.active.region
   pub room : held_of s.journal ≡ held
+  pub leaves : room_of s.journal + need_of tables es held ≡ half_len (length base)
 
 -- the old half goes on: a crash leaves what is read, and that is as it was but for the other half
 pub record GoesOn (disk : Life) (base : List ℕ) (store : Store) : Type 0 where

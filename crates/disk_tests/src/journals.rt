@@ -39,12 +39,13 @@ pub fn settle<D: Disk>(
     }
 }
 
-/// The journal of a region, and its records.
+/// The journal of a region of a disk that is synced first, and its records.
 pub fn open<D: Disk>(
     alloc: Global,
     disk: &mut D,
     region: Region,
 ) -> Result<(Journal, Vec<Record>), OpenError> {
+    disk.sync()?;
     if !may_be_a_journal(disk, region) {
         return Err(OpenError::DeviceFailed);
     }

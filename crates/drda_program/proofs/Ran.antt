@@ -1,9 +1,10 @@
 -- A run over the store of a path.
-use Rattle.std.proofs.Common.{◌≡◌, ◌+◌, ◌∙◌, arith, inl, inr, ℕ, Bool, false, IsTrue, List, Option, Some, Result, Ok, Err}
+use Rattle.std.proofs.Common.{◌≡◌, ◌+◌, ◌∙◌, arith, inl, inr, ℕ, Bool, List, Option, Some, Result, Ok, Err}
 use Rattle.drda_disk.specs.Disk.{Life}
-use Rattle.recovery.specs.Journaled.{IsDurable, OnDisk, shown_on}
+use Rattle.recovery.specs.Journaled.{OnDisk}
 use Rattle.recovery.specs.Openings.{ImagesAreSound}
 use Rattle.recovery.specs.StepLaws.{OpeningsAreKept}
+use Rattle.durable_core.specs.Opening.{SettlesFirst}
 use Rattle.durable_core.specs.declared.errors.OpenError.{OpenError}
 use Rattle.durable_core.specs.declared.errors.OpenError.TheVariants as error
 use Rattle.drda_node.specs.declared.serving.RunEnd.{RunEnd}
@@ -11,12 +12,12 @@ use Rattle.store_service.specs.Running as store
 use Rattle.store_service.specs.Running.{GivesBack}
 use Rattle.store_service.proofs.Stores.{SerialLaws, runs_over}
 use Rattle.command_line.specs.Job.{Login}
-use Rattle.store_files.proofs.Found.{found}
+use Rattle.store_files.proofs.Found.{found_settled}
 use Rattle.drda_program.proofs.Flushing.{goes_kept}
 use Rattle.store_files.specs.Endings.{fault_for}
 use Rattle.store_files.specs.Files.{FileCalls}
-use Rattle.store_files.specs.Opening.{IsOver, OpensStore}
-use Rattle.drda_program.specs.Program.{AnswersOver, PipesFile, machine_over}
+use Rattle.store_files.specs.Opening.{IsOver, OpensSettled}
+use Rattle.drda_program.specs.Program.{AnswersOver, PipesFile, RunsOn, RunsOver, machine_over}
 use Rattle.drda_program.specs.Reporting.{Reports}
 use Rattle.store_files.specs.Stores.{RefusesName}
 use Rattle.store_files.specs.declared.fault.Fault.{Fault}
@@ -40,24 +41,27 @@ module _ {D : Type 0} (modelled : Bool) (life : D → Life) where
       → Reports given.1 mid outcome now → AnswersOver modelled life core login input before outcome now
   answered core login input before mid now given outcome ran reports = ran_over core login input before mid now given.0 given.1 outcome ran reports
 
-  module _ {F : Type 0} (calls : FileCalls F D) where
-    module _ (sound : ImagesAreSound) (kept : OpeningsAreKept) (laws : SerialLaws) (path : List ℕ) (login : Login) (files files' : F) (input before now : Option (List ℕ)) (outcome : Result (Unit {0}) Fault) (core : OnDisk D)
-        (durable : IsTrue modelled → core.is_failed ≡ false → IsDurable (shown_on life core)) where
-      by_answer : (disk : D) → calls.opens files path (Some disk) files' → IsOver modelled life disk core → AnswersOver modelled life core login input before outcome now → PipesFile modelled life calls path login files input before outcome files' now
-      by_answer disk opens over (inl (fault, is, refused, silent)) = inl (fault, is, inr (disk, opens, core, over, refused), silent)
-      by_answer disk opens over (inr ran) = inr (
-        disk,
-        opens,
-        record {
-          core = core;
-          over = over;
-          ran = ran;
-          promise = λ name d is_store.
-              let finds = over.finds name d is_store.modelled_is is_store.opens in
-              runs_over modelled life sound kept laws name d login.user login.password disk is_store core finds (over.stood is_store.modelled_is) over.stays (durable is_store.modelled_is finds.going).only over.quiet
-              input before now ran.left (Ok ran.end) ran.goes;
-        },
-      )
+  -- a run over a core that was opened over a disk, by a first call that was a sync
+  module _ (sound : ImagesAreSound) (kept : OpeningsAreKept) (laws : SerialLaws) (syncs : D → Bool → D → Type 0) (login : Login) (input before now : Option (List ℕ)) (outcome : Result (Unit {0}) Fault) (disk : D) (core : OnDisk D)
+      (over : IsOver modelled life disk core) (settles : SettlesFirst life syncs disk core.disk) where
+    unfoldable pub runs_on : RunsOver modelled life core login input before outcome now → RunsOn modelled life syncs disk login input before outcome now
+    runs_on ran = record {
+      core = core;
+      over = over;
+      ran = ran;
+      promise = λ name d is_store.
+          runs_over modelled life syncs sound kept laws name d login.user login.password disk is_store core (over.finds name d is_store.modelled_is is_store.opens) (over.stood is_store.modelled_is) settles over.stays over.quiet
+          input before now ran.left (Ok ran.end) ran.goes;
+    }
 
-      pub piped_file : OpensStore modelled life calls files path (Ok core) files' → AnswersOver modelled life core login input before outcome now → PipesFile modelled life calls path login files input before outcome files' now
-      piped_file opened answers = let there = found modelled life calls files path core files' opened in by_answer there.0 there.1 there.2 answers
+    module _ {F : Type 0} (calls : FileCalls F D) (path : List ℕ) (files files' : F) where
+      pub by_answer : calls.opens files path (Some disk) files' → AnswersOver modelled life core login input before outcome now → PipesFile modelled life calls syncs path login files input before outcome files' now
+      by_answer opens (inl (fault, is, refused, silent)) = inl (fault, is, inr (disk, opens, core, over, refused), silent)
+      by_answer opens (inr ran) = inr (disk, opens, runs_on ran)
+
+  module _ {F : Type 0} (calls : FileCalls F D) (sound : ImagesAreSound) (kept : OpeningsAreKept) (laws : SerialLaws) (syncs : D → Bool → D → Type 0) (path : List ℕ) (login : Login) (files files' : F) (input before now : Option (List ℕ))
+      (outcome : Result (Unit {0}) Fault) (core : OnDisk D) where
+    pub piped_file : OpensSettled modelled life calls syncs files path (Ok core) files' → AnswersOver modelled life core login input before outcome now → PipesFile modelled life calls syncs path login files input before outcome files' now
+    piped_file opened answers =
+        let there = found_settled modelled life calls syncs files path core files' opened in
+        by_answer sound kept laws syncs login input before now outcome there.0 core there.2 there.3 calls path files files' there.1 answers

@@ -1,26 +1,26 @@
 -- What the program does with its words, its files, its network and its streams.
-use Rattle.std.specs.Prelude.{◌≡◌, ◌≢◌, ◌⊎◌, ℕ, Bool, true, false, List, [], ◌∷◌, ◌++◌, take, codes, Option, Some, None, IfSome, Result, Ok, Err}
+use Rattle.std.specs.Prelude.{◌≡◌, ◌≢◌, ◌⊎◌, ℕ, Bool, true, false, List, [], ◌∷◌, ◌++◌, take, codes, Option, Some, None, Result, Ok, Err}
 use Rattle.std.specs.Fmt.{decimal}
 use Rattle.std.specs.Io.KnownBytes.{Appends}
 use Rattle.drda_disk.specs.Disk.{Life}
-use Rattle.session_commands.specs.Settings.{Settings, is_rdb_name}
+use Rattle.drda_disk.specs.MemDisk.{life_of}
+use Rattle.drda_disk.specs.declared.memory.MemDisk.{MemDisk}
+use Rattle.session_commands.specs.Settings.{is_rdb_name}
 use Rattle.half_store.specs.Fresh.{is_store_of}
 use Rattle.half_store.specs.declared.header.Layout.TheVariants.{Two}
-use Rattle.unit_records.specs.MadeRecords.{none_made}
 use Rattle.recovery.specs.Durable.{Durable, fresh}
 use Rattle.recovery.specs.Journaled.{OnDisk}
-use Rattle.recovery.specs.Part.{opened}
-use Rattle.drda_node.specs.Asking.{AskedCore, asked_of}
+use Rattle.drda_node.specs.Asking.{asked_of}
 use Rattle.drda_node.specs.Machine.{Machine, at_start}
-use Rattle.drda_node.specs.Serving.{Runs}
 use Rattle.drda_node.specs.declared.serving.RunEnd.{RunEnd}
-use Rattle.store_service.specs.Running.{GoesFrom, HasRun, IsStore}
+use Rattle.store_service.specs.Running.{GoesFrom, HasRun, IsSettledStore, IsStore}
 use Rattle.command_line.specs.Job.{Job, Login, init, pipe, serve, in_doubt}
 use Rattle.command_line.specs.Job as job
 use Rattle.drda_program.specs.Deciding.{DecidesFile}
 use Rattle.store_files.specs.Endings.{line_of, status_of}
 use Rattle.drda_program.specs.Reporting.{result_for}
 use Rattle.store_files.specs.Files.{FileCalls}
+use Rattle.store_files.specs.InMemory.{syncs_in_memory}
 use Rattle.store_files.specs.Opening.{IsMade, IsOver, IsTurnedBack}
 use Rattle.drda_server.specs.Serving.{Seen, ServesFile, Surroundings, seen, settings_of}
 use Rattle.drda_program.specs.LoggingIn.{LogsIn, net_and_out}
@@ -29,37 +29,6 @@ use Rattle.told_stores.specs.Telling.{Checks, Lists, TellsRoom}
 use Rattle.store_files.specs.Stores.{RefusesName}
 use Rattle.store_files.specs.declared.fault.Fault.{Fault}
 use Rattle.store_files.specs.declared.fault.Fault.TheVariants.{BadArguments, BadEvent, Damaged, Device, NoMemory, NoRoom, NotAStore, NotInDoubt}
-
--- ---- event records over a store in memory
-
--- over a store in memory that was just made, of layout 2, with so many bytes for records
-abbrev pub new_core : ℕ → AskedCore
-new_core room = record { is_told = true; state = opened fresh; layout = Two; room = room; has_failed = false; made = none_made; calls = [] }
-
--- a machine that is started with these settings over a fresh store has run over the input and ended so
-abbrev pub RunsFresh : Settings → List ℕ → Option (List ℕ) → RunEnd → Option (List ℕ) → Type 0
-RunsFresh settings input before end now = (room : ℕ) × (last : Machine) × Runs (at_start settings (new_core room)) input before end now last
-
--- memory was refused, or the memory disk failed for want of it, before the first event: nothing is written
-abbrev pub IsNotBegun : Result (Unit {0}) Fault → Option (List ℕ) → Option (List ℕ) → Type 0
-IsNotBegun outcome before now = ((outcome ≡ Err NoMemory) ⊎ (outcome ≡ Err Device)) × (now ≡ before)
-
--- the run and its last flush, by what stands in the input
-pub record HasAnswered (settings : Settings) (input before : Option (List ℕ)) (outcome : Result (Unit {0}) Fault) (now : Option (List ℕ)) : Type 0 where
-  pub end : RunEnd
-  pub is_flushed : Bool
-  pub reported : outcome ≡ result_for end is_flushed
-  pub has_run : IfSome input (λ bytes. RunsFresh settings bytes before end now)
-
--- the run did not begin, or it ended
-abbrev pub Pipes : Settings → Option (List ℕ) → Option (List ℕ) → Result (Unit {0}) Fault → Option (List ℕ) → Type 0
-Pipes settings input before outcome now = IsNotBegun outcome before now ⊎ HasAnswered settings input before outcome now
-
--- a name that no database has is refused
-abbrev pub PipesInMemory : List ℕ → Login → Option (List ℕ) → Option (List ℕ) → Result (Unit {0}) Fault → Option (List ℕ) → Type 0
-PipesInMemory rdb login input before outcome now =
-    ((is_rdb_name rdb ≡ false) × (outcome ≡ Err BadArguments) × (now ≡ before))
-    ⊎ ((is_rdb_name rdb ≡ true) × Pipes (settings_of login rdb) input before outcome now)
 
 -- ---- over the store of a disk
 
@@ -80,16 +49,37 @@ module _ {D : Type 0} (modelled : Bool) (life : D → Life) where
   abbrev pub AnswersOver : OnDisk D → Login → Option (List ℕ) → Option (List ℕ) → Result (Unit {0}) Fault → Option (List ℕ) → Type 0
   AnswersOver core login input before outcome now = ((fault : Fault) × (outcome ≡ Err fault) × RefusesName core.name fault × (now ≡ before)) ⊎ RunsOver core login input before outcome now
 
-  -- The run over the store that a disk is. Of a disk that gives back what was written, whose one image opens to a state, it is all
-  -- that is promised of a run over a store.
-  pub record RunsOn (disk : D) (login : Login) (input before : Option (List ℕ)) (outcome : Result (Unit {0}) Fault) (now : Option (List ℕ)) : Type 0 where
+  -- The run over the store that a disk is. Of a disk that gives back what was written, and of which what is read opens to a state, it
+  -- is all that is promised of a run over a store.
+  pub record RunsOn (syncs : D → Bool → D → Type 0) (disk : D) (login : Login) (input before : Option (List ℕ)) (outcome : Result (Unit {0}) Fault) (now : Option (List ℕ)) : Type 0 where
     pub core : OnDisk D
     pub over : IsOver modelled life disk core
     pub ran : RunsOver core login input before outcome now
-    pub promise : (name : List ℕ) (d : Durable) → IsStore modelled name d (life disk) → HasRun life name d (settings_of login name) disk ran.left input before ran.end now
+    pub promise : (name : List ℕ) (d : Durable) → IsStore modelled name d (life disk) → HasRun life syncs name d (settings_of login name) disk ran.left input before ran.end now
 
-  -- ---- over the disk of a path
+-- ---- over a store in memory
 
+-- memory was refused, or the memory disk failed for want of it, before the first event: nothing is written
+abbrev pub IsNotBegun : Result (Unit {0}) Fault → Option (List ℕ) → Option (List ℕ) → Type 0
+IsNotBegun outcome before now = ((outcome ≡ Err NoMemory) ⊎ (outcome ≡ Err Device)) × (now ≡ before)
+
+-- The run over a store in memory that was just made: its disk gives back what was written, and opens to no tables and no units in
+-- doubt. So it has all that is promised of a run over a store. It is of layout 2.
+pub record RunsFresh (rdb : List ℕ) (login : Login) (input before : Option (List ℕ)) (outcome : Result (Unit {0}) Fault) (now : Option (List ℕ)) : Type 0 where
+  pub disk : MemDisk
+  pub store : IsSettledStore true rdb fresh (life_of disk)
+  pub run : RunsOn true life_of syncs_in_memory disk login input before outcome now
+  pub layout : run.core.layout ≡ Two
+
+-- the run did not begin, or it ended; a name that no database has is refused
+abbrev pub PipesInMemory : List ℕ → Login → Option (List ℕ) → Option (List ℕ) → Result (Unit {0}) Fault → Option (List ℕ) → Type 0
+PipesInMemory rdb login input before outcome now =
+    ((is_rdb_name rdb ≡ false) × (outcome ≡ Err BadArguments) × (now ≡ before))
+    ⊎ ((is_rdb_name rdb ≡ true) × (IsNotBegun outcome before now ⊎ RunsFresh rdb login input before outcome now))
+
+-- ---- over the disk of a path
+
+module _ {D : Type 0} (modelled : Bool) (life : D → Life) where
   module _ {F : Type 0} (calls : FileCalls F D) where
     -- a store is made and its size is said; a size or a name that no store has is refused before any file is made
     abbrev pub Makes : List ℕ → ℕ → List ℕ → F → Option (List ℕ) → Result (Unit {0}) Fault → F → Option (List ℕ) → Type 0
@@ -105,14 +95,14 @@ module _ {D : Type 0} (modelled : Bool) (life : D → Life) where
     Makes path size rdb files before (Err NoRoom) files' now = ⊥
 
     -- the run over the store of a path, if there is one
-    abbrev pub PipesFile : List ℕ → Login → F → Option (List ℕ) → Option (List ℕ) → Result (Unit {0}) Fault → F → Option (List ℕ) → Type 0
-    PipesFile path login files input before outcome files' now = ((fault : Fault) × (outcome ≡ Err fault) × IsTurnedBack modelled life calls files path fault files' × (now ≡ before))
-        ⊎ ((disk : D) × calls.opens files path (Some disk) files' × RunsOn disk login input before outcome now)
+    abbrev pub PipesFile : (D → Bool → D → Type 0) → List ℕ → Login → F → Option (List ℕ) → Option (List ℕ) → Result (Unit {0}) Fault → F → Option (List ℕ) → Type 0
+    PipesFile syncs path login files input before outcome files' now = ((fault : Fault) × (outcome ≡ Err fault) × IsTurnedBack modelled life calls files path fault files' × (now ≡ before))
+        ⊎ ((disk : D) × calls.opens files path (Some disk) files' × RunsOn modelled life syncs disk login input before outcome now)
 
     -- over the store of a path, or over one in memory
-    abbrev pub PipesOver : Option (List ℕ) → List ℕ → Login → F → Option (List ℕ) → Option (List ℕ) → Result (Unit {0}) Fault → F → Option (List ℕ) → Type 0
-    PipesOver None rdb login files input before outcome files' now = PipesInMemory rdb login input before outcome now × (files' ≡ files)
-    PipesOver (Some path) rdb login files input before outcome files' now = PipesFile path login files input before outcome files' now
+    abbrev pub PipesOver : (D → Bool → D → Type 0) → Option (List ℕ) → List ℕ → Login → F → Option (List ℕ) → Option (List ℕ) → Result (Unit {0}) Fault → F → Option (List ℕ) → Type 0
+    PipesOver syncs None rdb login files input before outcome files' now = PipesInMemory rdb login input before outcome now × (files' ≡ files)
+    PipesOver syncs (Some path) rdb login files input before outcome files' now = PipesFile syncs path login files input before outcome files' now
 
 -- the line that tells the version and the logic
 abbrev pub version_line : List ℕ
@@ -124,12 +114,12 @@ TellsVersion before (Err fault) now = fault ≡ Device
 
 -- ---- what words ask for
 
-module _ {F D N L S W : Type 0} (around : Surroundings F D N L S W) where
+module _ {F D N L S W : Type 0} (around : Surroundings F D N L S W) (syncs : D → Bool → D → Type 0) where
   abbrev pub Does : Option Job → Option (List ℕ) → Seen F N → Result (Unit {0}) Fault → Seen F N → Type 0
   Does None input old outcome new = (outcome ≡ Err BadArguments) × (new ≡ old)
   Does (Some (init path size rdb)) input old outcome new = Makes around.modelled around.life around.files path size rdb old.files old.out outcome new.files new.out × (new.net ≡ old.net)
   Does (Some (pipe path rdb source)) input old outcome new = LogsIn around.files source old.files old.out outcome new.files new.out (λ login files.
-      PipesOver around.modelled around.life around.files path rdb login files input old.out outcome new.files new.out) × (new.net ≡ old.net)
+      PipesOver around.modelled around.life around.files syncs path rdb login files input old.out outcome new.files new.out) × (new.net ≡ old.net)
   Does (Some (serve path port source options)) input old outcome new = LogsIn around.files source old.files (net_and_out old.net old.out) outcome new.files (net_and_out new.net new.out) (λ login files.
       ServesFile around path port login options (seen files old.net old.out) outcome new)
   Does (Some (in_doubt path)) input old outcome new = Lists around.modelled around.life around.files path old.files old.out outcome new.files new.out × (new.net ≡ old.net)

@@ -60,7 +60,7 @@ pub(crate) fn pipe<F: StoreFiles, R: Read + Ready, W: Write>(
     out: &mut W,
 ) -> Result<(), Fault>
     ensures { LogsIn F.calls (plain_source source.entry) files.old (W.contents out.old) result files.new (W.contents out.new) (λ login mid.
-        PipesOver F.Disk.is_modelled F.Disk.life F.calls (option_map (λ p. p.now) path.entry) rdb.now login mid (R.remaining reader.old) (W.contents out.old) result files.new (W.contents out.new)) }
+        PipesOver F.Disk.is_modelled F.Disk.life F.calls F.Disk.syncs (option_map (λ p. p.now) path.entry) rdb.now login mid (R.remaining reader.old) (W.contents out.old) result files.new (W.contents out.new)) }
 {
     let text = read_source(alloc, files, source)?;
     let login = login_by(source, &text)?;
@@ -76,7 +76,7 @@ fn pipe_by<F: StoreFiles, R: Read + Ready, W: Write>(
     reader: &mut R,
     out: &mut W,
 ) -> Result<(), Fault>
-    ensures { PipesOver F.Disk.is_modelled F.Disk.life F.calls (option_map (λ p. p.now) path.entry) rdb.now (plain_login login.entry) files.old (R.remaining reader.old) (W.contents out.old) result files.new (W.contents out.new) }
+    ensures { PipesOver F.Disk.is_modelled F.Disk.life F.calls F.Disk.syncs (option_map (λ p. p.now) path.entry) rdb.now (plain_login login.entry) files.old (R.remaining reader.old) (W.contents out.old) result files.new (W.contents out.new) }
 {
     match path {
         None => answer_in_memory(alloc, rdb, login, reader, out),

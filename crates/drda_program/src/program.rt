@@ -84,7 +84,7 @@ where
     F::Disk: Send,
     N::Stream: Send,
     N::Writer: Send,
-    ensures { Exits (surroundings F.calls F.Disk.is_modelled F.Disk.life N.calls N.Stream.remaining N.Writer.contents) (said (map S.text words.now))
+    ensures { Exits (surroundings F.calls F.Disk.is_modelled F.Disk.life N.calls N.Stream.remaining N.Writer.contents) F.Disk.syncs (said (map S.text words.now))
         (R.remaining reader.old) (seen files.old net.old (W.contents out.old)) result (seen files.new net.new (W.contents out.new))
         (E.contents err.old) (E.contents err.new) }
 {
@@ -145,7 +145,7 @@ where
     N::Stream: Send,
     N::Writer: Send,
     ensures does { ((result ≡ Err Fault.NoMemory) × (seen files.new net.new (W.contents out.new) ≡ seen files.old net.old (W.contents out.old)))
-        ⊎ Does (surroundings F.calls F.Disk.is_modelled F.Disk.life N.calls N.Stream.remaining N.Writer.contents) (said (map S.text words.now))
+        ⊎ Does (surroundings F.calls F.Disk.is_modelled F.Disk.life N.calls N.Stream.remaining N.Writer.contents) F.Disk.syncs (said (map S.text words.now))
         (R.remaining reader.old) (seen files.old net.old (W.contents out.old)) result (seen files.new net.new (W.contents out.new)) }
     ensures quiet { said (map S.text words.now) ≢ None → result ≢ Err Fault.BadArguments → string_bytes text.new ≡ string_bytes text.old }
 {
@@ -190,7 +190,7 @@ where
     F::Disk: Send,
     N::Stream: Send,
     N::Writer: Send,
-    ensures { Does (surroundings F.calls F.Disk.is_modelled F.Disk.life N.calls N.Stream.remaining N.Writer.contents) (Some (plain_job job.now))
+    ensures { Does (surroundings F.calls F.Disk.is_modelled F.Disk.life N.calls N.Stream.remaining N.Writer.contents) F.Disk.syncs (Some (plain_job job.now))
         (R.remaining reader.old) (seen files.old net.old (W.contents out.old)) result (seen files.new net.new (W.contents out.new)) }
 {
     match job {

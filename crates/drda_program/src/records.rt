@@ -16,7 +16,7 @@ use recovery::openings::openings_begin_histories;
 use recovery::step_laws::openings_are_kept;
 use std::alloc::Global;
 use std::io::{Read, Write};
-use store_files::{Fault, StoreFiles, fault_of, fresh, open_file};
+use store_files::{Fault, StoreFiles, fault_of, fresh, open_to_run};
 use store_service::run_core;
 
 // What is reported of a run, by its end and by whether the last flush succeeded.
@@ -70,17 +70,14 @@ pub(crate) fn answer_file<F: StoreFiles, R: Read + Ready, W: Write>(
     reader: &mut R,
     out: &mut W,
 ) -> Result<(), Fault>
-    ensures { PipesFile F.Disk.is_modelled F.Disk.life F.calls path.now (plain_login login.entry) files.old (R.remaining reader.old) (W.contents out.old) result files.new (W.contents out.new) }
+    ensures { PipesFile F.Disk.is_modelled F.Disk.life F.calls F.Disk.syncs path.now (plain_login login.entry) files.old (R.remaining reader.old) (W.contents out.old) result files.new (W.contents out.new) }
 {
     openings_begin_histories();
     openings_are_kept();
     calls_are_histories();
     machines_are_serial();
-    match open_file(alloc, files, path) {
-        Ok(core) => {
-            core.is_durable();
-            answer_records(alloc, core, login, reader, out)
-        }
+    match open_to_run(alloc, files, path) {
+        Ok(core) => answer_records(alloc, core, login, reader, out),
         Err(fault) => Err(fault),
     }
 }
@@ -95,6 +92,10 @@ pub(crate) fn answer_in_memory<R: Read + Ready, W: Write>(
 ) -> Result<(), Fault>
     ensures { PipesInMemory rdb.now (plain_login login.entry) (R.remaining reader.old) (W.contents out.old) result (W.contents out.new) }
 {
+    openings_begin_histories();
+    openings_are_kept();
+    calls_are_histories();
+    machines_are_serial();
     match fresh(alloc, rdb) {
         Ok(core) => answer_records(alloc, core, login, reader, out),
         Err(fault) => Err(fault),

@@ -1,6 +1,6 @@
 -- What opening answers, once the parts of the store are read.
-use Rattle.std.proofs.Common.{◌≡◌, ℕ, ◌+◌, ◌-◌, ◌≤◌, Bool, IsTrue, IfErr, IfOk, List, length, Result, Ok, Err, refl, sym, ◌∙◌, ap, subst, arith}
-use Rattle.drda_disk.specs.Disk.{Life}
+use Rattle.std.proofs.Common.{◌≡◌, inl, ℕ, ◌+◌, ◌-◌, ◌≤◌, Bool, true, IsTrue, IfErr, IfOk, List, length, Result, Ok, Err, refl, sym, ◌∙◌, ap, subst, arith}
+use Rattle.drda_disk.specs.Disk.{Life, Only, Stays}
 use Rattle.drda_disk.specs.Region.{end_of}
 use Rattle.half_store.specs.declared.header.Layout.{Layout}
 use Rattle.unit_journal.specs.Journal.{held_of, region_of, room_of}
@@ -12,13 +12,25 @@ use Rattle.recovery.specs.Journaled.{OnDisk}
 use Rattle.recovery.specs.ImageLaws.{OpensToOne}
 use Rattle.recovery.specs.Opens.{Holds, OpensTo}
 use Rattle.durable_core.specs.Found.{IsFound, StandsThere, durable_in, name_in}
-use Rattle.durable_core.specs.Opening.{Finds, IsOpenedTo, StoodThere}
+use Rattle.durable_core.specs.Opening.{Finds, IsOpenedTo, SettlesFirst, StoodThere, SyncsFirst, disk_in}
 use Rattle.durable_core.specs.Reads.{IsExcused}
 use Rattle.durable_core.specs.declared.errors.OpenError.{OpenError}
 use Rattle.durable_core.specs.declared.errors.OpenError.TheVariants.{NoMemory}
 use Rattle.durable_core.specs.declared.errors.Refused.{Refused}
 use Rattle.durable_core.specs.declared.reading.Found.{Found}
 use Rattle.durable_core.proofs.Parts.{finds_one}
+
+-- ---- behind a sync
+
+module _ {D : Type 0} (life : D → Life) (syncs : D → Bool → D → Type 0) (old synced : D) (call : syncs old true synced) (stays : Stays (life old) (life synced)) (only : Only (life synced)) where
+  settles_first : (new : D) → Stays (life synced) (life new) → SettlesFirst life syncs old new
+  settles_first new reads_on = record { synced = synced; call = call; unwritten = stays; only = only; reads_on = reads_on }
+
+  pub syncs_first : (r : Result (OnDisk D) (Refused D)) → Stays (life synced) (life (disk_in r)) → SyncsFirst life syncs old r
+  syncs_first (Ok core) reads_on = settles_first core.disk reads_on
+  syncs_first (Err refused) reads_on = inl (settles_first refused.disk reads_on)
+
+-- ---- what was read
 
 -- what records leave of a journal, less what is held
 left : (at len l held room : ℕ) → room ≡ at + len - (at + l) - 1 - held → l + 1 + held ≤ len → room + (l + 1 + held) ≡ len

@@ -313,7 +313,7 @@ module _ {D : Type 0} (modelled : Bool) (life : D → Life) (name : List ℕ) (l
         going = going;
         still = w.going;
         layout = w.layout;
-        fits = λ m. subst (λ (n : ℕ). n ≤ half_len (length (life (disk_of r)).seen)) (sym enough) (w.fits (disk_there m).holds.store (store_rests m));
+        leaves = λ m. ap (λ (n : ℕ). room_of (journal_of new) + n) enough ∙ (w.switched (disk_there m).holds.store (store_rests m)).leaves;
         faults = w.faults;
       };
     };

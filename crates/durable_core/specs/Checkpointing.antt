@@ -1,5 +1,5 @@
 -- What a checkpoint makes of a core: nothing but its disk and the room of its journal changes.
-use Rattle.std.specs.Prelude.{◌≡◌, ◌<◌, ◌≤◌, ℕ, Bool, IsTrue, true, false, length, map, Result, Ok, Err}
+use Rattle.std.specs.Prelude.{◌≡◌, ◌+◌, ◌<◌, ℕ, Bool, IsTrue, true, false, length, map, Result, Ok, Err}
 use Rattle.drda_disk.specs.Disk.{Stays}
 use Rattle.half_store.specs.Layout.{half_len}
 use Rattle.half_store.specs.declared.header.Layout.TheVariants.{Two}
@@ -28,12 +28,13 @@ need_for s = need_of s.state.base.store (map entry_of (records_of (durable_part 
 abbrev pub half_bytes_for : Shown → ℕ
 half_bytes_for s = half_len (length s.disk.seen)
 
--- it is there, of layout 2; where the device gives back what was written, it fits into a half
+-- It is there, of layout 2. Where the device gives back what was written, the room behind it is what it leaves of a half: so it fits
+-- there.
 pub record IsLaid (modelled : Bool) (old new : Shown) : Type 0 where
   pub going : old.is_failed ≡ false
   pub still : new.is_failed ≡ false
   pub layout : new.layout ≡ Two
-  pub fits : IsTrue modelled → need_for old ≤ half_bytes_for old
+  pub leaves : IsTrue modelled → new.room + need_for old ≡ half_bytes_for old
   pub faults : new.disk.faults ≡ old.disk.faults
 
 -- it is not, and the core goes on as before

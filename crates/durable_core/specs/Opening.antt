@@ -1,5 +1,6 @@
 -- What opening a store answers.
-use Rattle.std.specs.Prelude.{◌≡◌, ℕ, ◌+◌, false, List, length, Result, Ok, Err}
+use Rattle.std.specs.Prelude.{◌≡◌, ◌⊎◌, ℕ, ◌+◌, Bool, true, false, List, length, Result, Ok, Err}
+use Rattle.drda_disk.specs.Disk.{Life, Only, Stays}
 use Rattle.drda_disk.specs.declared.region.Region.{Region}
 use Rattle.unit_journal.specs.Record.{Entry, laid}
 use Rattle.unit_records.specs.MadeRecords.{none_made}
@@ -9,12 +10,33 @@ use Rattle.recovery.specs.Part.{opened}
 use Rattle.recovery.specs.Opens.{Holds}
 use Rattle.recovery.specs.Journaled.{OnDisk}
 use Rattle.durable_core.specs.Reads.{CountsError, IsExcused, TellsNoStore}
+use Rattle.durable_core.specs.declared.errors.OpenError.{OpenError}
+use Rattle.durable_core.specs.declared.errors.OpenError.TheVariants.{DeviceFailed}
 use Rattle.durable_core.specs.declared.errors.Refused.{Refused}
 
 -- the disk, which each answer hands on
 abbrev pub disk_in : {D : Type 0} → Result (OnDisk D) (Refused D) → D
 disk_in (Ok core) = core.disk
 disk_in (Err refused) = refused.disk
+
+-- The first device call was a sync, and nothing was read before it: from then on a crash leaves what is read. Behind it nothing was
+-- written.
+pub record SettlesFirst {D : Type 0} (life : D → Life) (syncs : D → Bool → D → Type 0) (old new : D) : Type 0 where
+  pub synced : D
+  pub call : syncs old true synced
+  pub unwritten : Stays (life old) (life synced)
+  pub only : Only (life synced)
+  pub reads_on : Stays (life synced) (life new)
+
+-- The first device call was a sync, which failed, and that is told: no other call was made, so nothing was read.
+pub record FailsToSync {D : Type 0} (syncs : D → Bool → D → Type 0) (error : OpenError) (old new : D) : Type 0 where
+  pub told : error ≡ DeviceFailed
+  pub call : syncs old false new
+
+-- an opening begins with a sync
+abbrev pub SyncsFirst : {D : Type 0} → (D → Life) → (D → Bool → D → Type 0) → D → Result (OnDisk D) (Refused D) → Type 0
+SyncsFirst life syncs old (Ok core) = SettlesFirst life syncs old core.disk
+SyncsFirst life syncs old (Err refused) = SettlesFirst life syncs old refused.disk ⊎ FailsToSync syncs refused.error old refused.disk
 
 -- the core has this name, and these tables and units in doubt, and nothing else; its device has not failed
 pub record IsOpenedTo {D : Type 0} (name : List ℕ) (d : Durable) (core : OnDisk D) : Type 0 where

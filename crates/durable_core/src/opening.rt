@@ -1,12 +1,12 @@
 //! Opening a store.
 
 ghost use Rattle.std.specs.Prelude.{◌≡◌, IfErr, IfOk, IsTrue, List, ℕ, length};
-ghost use Rattle.drda_disk.specs.Disk.{Stays};
+ghost use Rattle.drda_disk.specs.Disk.{Only, Stays};
 ghost use Rattle.unit_journal.specs.Journal.{room_of};
 ghost use Rattle.recovery.specs.Durable.{Durable};
 ghost use Rattle.recovery.specs.Opens.{OpensTo};
 ghost use Rattle.durable_core.specs.Found.{IsFound, durable_in, name_in};
-ghost use Rattle.durable_core.specs.Opening.{CountsOpen, Finds, IsOpenedTo, OpensStore, StoodThere, disk_in};
+ghost use Rattle.durable_core.specs.Opening.{CountsOpen, Finds, IsOpenedTo, OpensStore, StoodThere, SyncsFirst, disk_in};
 ghost use Rattle.durable_core.specs.Reads.{Counts, IsPlain, TellsStore};
 
 use crate::durable::DurableCore;
@@ -15,7 +15,7 @@ use crate::head::read_head;
 use crate::holding::hold_all;
 use crate::reading::{Found, read_journal, read_tables, read_units};
 use crate::restoring::restore_all;
-use drda_disk::Disk;
+use drda_disk::{Disk, DiskFault};
 use half_store::Active;
 use journal_recorder::{CACHED_PAGES, DiskRecorder};
 use rdb_core::Core;
@@ -32,12 +32,35 @@ use unit_journal::a_region_has_one_reading;
 /// All pages are checked, and their rows stay on them; what the records say has changed since is in memory.
 /// A store of layout 1 opens too: it stays so until its next checkpoint. Nothing is written. Each refusal hands the disk back.
 ///
+/// The first device call is a sync: a disk of a server that was killed may have writes that a crash would lose still, so it
+/// settles what is read before any of it is read. Where it fails `DeviceFailed` is answered, and nothing is read.
+///
 /// `NotAStore` comes where the disk has not 2 MiB to 1 GiB or does not begin with `DRDASTO1`.
 /// `Damaged` comes where the head, the header of a half, a page of the active half or a record of the
 /// journal is damaged, at the offset of the first that is; and where what the branches in doubt hold
 /// has no room behind the records, at the last record that left one of them in doubt. What opens is
 /// never answered so.
 pub fn open<D: Disk>(alloc: Global, disk: D) -> Result<DurableCore<D>, Refused<D>>
+    ensures first { SyncsFirst D.life D.syncs disk result }
+    ensures opens { (name : List ℕ) (d : Durable) → IsTrue D.is_modelled → OpensTo name d (D.life disk).seen → Finds name d result }
+    ensures found { IsTrue D.is_modelled → IfOk result (StoodThere (D.life disk).seen) }
+    ensures tells { IsTrue D.is_modelled → OpensStore result (D.life disk).seen }
+    ensures stays { Stays (D.life disk) (D.life (disk_in result)) }
+    ensures cause { CountsOpen result (D.life disk).faults (D.life (disk_in result)).faults }
+{
+    let mut disk = disk;
+    match disk.sync() {
+        Ok(()) => open_synced(alloc, disk),
+        Err(DiskFault) => Err(Refused {
+            disk,
+            error: OpenError::DeviceFailed,
+        }),
+    }
+}
+
+// The store of a disk that was synced.
+fn open_synced<D: Disk>(alloc: Global, disk: D) -> Result<DurableCore<D>, Refused<D>>
+    requires settled { Only (D.life disk) }
     ensures opens { (name : List ℕ) (d : Durable) → IsTrue D.is_modelled → OpensTo name d (D.life disk).seen → Finds name d result }
     ensures found { IsTrue D.is_modelled → IfOk result (StoodThere (D.life disk).seen) }
     ensures tells { IsTrue D.is_modelled → OpensStore result (D.life disk).seen }
@@ -55,6 +78,7 @@ pub fn open<D: Disk>(alloc: Global, disk: D) -> Result<DurableCore<D>, Refused<D
 
 // The same, of a disk that is lent as one with the pages of it that are kept.
 fn open_paged<D: Disk>(alloc: Global, pager: Pager<D>) -> Result<DurableCore<D>, Refused<D>>
+    requires settled { Only (D.life pager) }
     ensures opens { (name : List ℕ) (d : Durable) → IsTrue D.is_modelled → OpensTo name d (D.life pager).seen → Finds name d result }
     ensures found { IsTrue D.is_modelled → IfOk result (StoodThere (D.life pager).seen) }
     ensures tells { IsTrue D.is_modelled → OpensStore result (D.life pager).seen }
@@ -74,6 +98,7 @@ fn open_paged<D: Disk>(alloc: Global, pager: Pager<D>) -> Result<DurableCore<D>,
 
 // The parts of the store that a disk is.
 fn read_store<D: Disk>(alloc: Global, pager: &mut Pager<D>) -> Result<Found, OpenError>
+    requires settled { Only (D.life pager.old) }
     ensures found { IfOk result (IsFound D.is_modelled (D.life pager.new)) }
     ensures opens { (name : List ℕ) (d : Durable) → IsTrue D.is_modelled → OpensTo name d (D.life pager.old).seen → IsPlain result }
     ensures tells { IsTrue D.is_modelled → TellsStore result (D.life pager.old).seen }

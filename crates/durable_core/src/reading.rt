@@ -1,7 +1,7 @@
 //! What is read of a store.
 
 ghost use Rattle.std.specs.Prelude.{◌≡◌, IfOk, IsTrue, List, ℕ, length, true};
-ghost use Rattle.drda_disk.specs.Disk.{Stays};
+ghost use Rattle.drda_disk.specs.Disk.{Only, Stays};
 ghost use Rattle.unit_journal.specs.Journal.{held_of, region_of};
 ghost use Rattle.unit_journal.specs.Opened.{IsOpened};
 ghost use Rattle.unit_journal.specs.Record.{Entry, entries_of};
@@ -66,13 +66,14 @@ pub(crate) fn read_tables<D: Disk>(
     }
 }
 
-/// The journal of a region, and its records.
+/// The journal of a region of a disk of which a crash leaves what is read, and its records.
 pub(crate) fn read_journal<D: Disk>(
     alloc: Global,
     disk: &mut D,
     region: Region,
 ) -> Result<(Journal, Vec<Record>), OpenError>
-    requires { IsInside (length (D.life disk.old).seen) region }
+    requires inside { IsInside (length (D.life disk.old).seen) region }
+    requires settled { Only (D.life disk.old) }
     ensures records { IsTrue D.is_modelled → IfOk result (λ found. IsOpened D.is_modelled (D.life disk.new) region (entries_of found.1.items) found) }
     ensures stand { IsTrue D.is_modelled → IfOk result (λ found. Stands region (entries_of found.1.items) (D.life disk.old).seen) }
     ensures region { IfOk result (λ found. (region_of found.0 ≡ region) × (held_of found.0 ≡ 0)) }

@@ -32,6 +32,7 @@ to_switched modelled disk base store tables es held s a = record {
   settled = a.settled;
   begins = a.begins ∙ a.behind.begins ∙ ap (λ (n : ℕ). journal_at n (store_of s.active)) (sym a.is.size) ∙ ap (λ (x : Store). journal_at (length disk.seen) x) (sym a.same);
   ends = a.ends ∙ a.behind.ends ∙ ap (λ (n : ℕ). half_end n (store_of s.active)) (sym a.is.size) ∙ ap (λ (x : Store). half_end (length disk.seen) x) (sym a.same);
+  leaves = a.leaves;
 }
 
 module _ {D : Type 0} (modelled : Bool) (life : D → Life) (old : DiskRecorder D) where
@@ -122,7 +123,6 @@ module _ {D : Type 0} (modelled : Bool) (life : D → Life) (old mid : DiskRecor
     held = w.held;
     layout = w.layout;
     inside = w.inside;
-    fits = λ store r. subst (λ (base : List ℕ). need_of tables es hold ≤ half_len (length base)) seen (w.fits store (rests store r));
     faults = w.faults ∙ faults;
     going = w.going;
   }

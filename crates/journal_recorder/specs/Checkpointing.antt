@@ -7,7 +7,7 @@ use Rattle.half_store.specs.Layout.{half_len}
 use Rattle.half_store.specs.declared.header.Layout.TheVariants.{Two}
 use Rattle.row_pages.specs.Laying.{counted}
 use Rattle.tables.specs.Tables.{Store as Tables}
-use Rattle.unit_journal.specs.Journal.{IsSettled, held_of, region_of}
+use Rattle.unit_journal.specs.Journal.{IsSettled, held_of, region_of, room_of}
 use Rattle.unit_journal.specs.declared.journal.Journal.{Journal}
 use Rattle.unit_journal.specs.Record.{Entry}
 use Rattle.unit_records.specs.Records.{UnitRecord}
@@ -20,12 +20,14 @@ use Rattle.journal_recorder.specs.declared.checkpointing.CheckpointError.{Checkp
 use Rattle.journal_recorder.specs.declared.checkpointing.CheckpointError.TheVariants.{DeviceFailed, Full, NoMemory}
 use Rattle.journal_recorder.specs.declared.recorder.DiskRecorder.{DiskRecorder}
 
--- The other half is the active one, to stay, with these tables and these records, and the journal goes on behind them.
+-- The other half is the active one, to stay, with these tables and these records, and the journal goes on behind them: its room is
+-- what all of it leaves of the half.
 pub record IsSwitched (modelled : Bool) (disk : Life) (base : List ℕ) (store : Store) (tables : Tables) (es : List Entry) (held : ℕ) (journal : Journal) : Type 0 where
   pub is : IsNew base store tables es held disk.seen
   pub settled : IsSettled modelled disk journal es
   pub begins : (region_of journal).at ≡ journal_at (length disk.seen) is.new
   pub ends : end_of (region_of journal) ≡ half_end (length disk.seen) is.new
+  pub leaves : room_of journal + need_of tables es held ≡ half_len (length base)
 
 module _ {D : Type 0} (modelled : Bool) (life : D → Life) where
   abbrev pub disk_life : DiskRecorder D → Life
@@ -61,7 +63,6 @@ module _ {D : Type 0} (modelled : Bool) (life : D → Life) where
     pub held : held_of (journal_of new) ≡ hold
     pub layout : layout_of new ≡ Two
     pub inside : end_of (region_of (journal_of new)) ≤ length (disk_life new).seen
-    pub fits : OfStore old (λ store. need_of tables es hold ≤ half_len (length (disk_life old).seen))
     pub faults : (disk_life new).faults ≡ (disk_life old).faults
     pub going : has_failed new ≡ false
 

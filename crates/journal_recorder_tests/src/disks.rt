@@ -31,6 +31,9 @@ fn may_be_a_journal<D: Disk>(disk: &D, region: Region) -> bool
 
 // The journal of a region, and its records.
 fn journal_on(alloc: Global, disk: &mut MemDisk, region: Region) -> Option<(Journal, Vec<Record>)> {
+    let Ok(()) = disk.sync() else {
+        return None;
+    };
     if !may_be_a_journal(disk, region) {
         return None;
     }

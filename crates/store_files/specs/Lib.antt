@@ -2,3 +2,4 @@ pub mod Endings
 pub mod Files
 pub mod Stores
 pub mod Opening
+pub mod InMemory

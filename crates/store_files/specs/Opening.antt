@@ -5,7 +5,7 @@ use Rattle.half_store.specs.Fresh.{IsFresh, IsNoneOrFresh}
 use Rattle.recovery.specs.Durable.{Durable}
 use Rattle.recovery.specs.Opens.{OpensTo}
 use Rattle.recovery.specs.Journaled.{OnDisk}
-use Rattle.durable_core.specs.Opening.{IsOpenedTo, StoodThere}
+use Rattle.durable_core.specs.Opening.{IsOpenedTo, SettlesFirst, StoodThere}
 use Rattle.durable_core.specs.Reads.{IsExcused, TellsNoStore}
 use Rattle.durable_core.specs.declared.errors.OpenError.{OpenError}
 use Rattle.store_files.specs.Endings.{fault_for}
@@ -36,6 +36,11 @@ module _ {D : Type 0} (modelled : Bool) (life : D → Life) where
   IsOpened disk (Ok core) = IsOver disk core
   IsOpened disk (Err fault) = IsRefused disk fault
 
+  -- where it was opened, its first device call was a sync
+  abbrev pub HasSettled : (D → Bool → D → Type 0) → D → Result (OnDisk D) Fault → Type 0
+  HasSettled syncs disk (Ok core) = SettlesFirst life syncs disk core.disk
+  HasSettled syncs disk (Err fault) = Unit {0}
+
   -- ---- the disk of a path
 
   module _ {F : Type 0} (calls : FileCalls F D) where
@@ -43,6 +48,11 @@ module _ {D : Type 0} (modelled : Bool) (life : D → Life) where
     abbrev pub OpensStore : F → List ℕ → Result (OnDisk D) Fault → F → Type 0
     OpensStore files path result files' = (calls.opens files path None files' × (result ≡ Err Device))
         ⊎ ((disk : D) × calls.opens files path (Some disk) files' × IsOpened disk result)
+
+    -- the same, and its first device call was a sync
+    abbrev pub OpensSettled : (D → Bool → D → Type 0) → F → List ℕ → Result (OnDisk D) Fault → F → Type 0
+    OpensSettled syncs files path result files' = (calls.opens files path None files' × (result ≡ Err Device))
+        ⊎ ((disk : D) × calls.opens files path (Some disk) files' × IsOpened disk result × HasSettled syncs disk result)
 
     -- nothing is served: its store is not opened, or the store's name is none of a database, or memory was refused
     abbrev pub IsTurnedBack : F → List ℕ → Fault → F → Type 0

@@ -2,7 +2,6 @@
 use Rattle.std.specs.Prelude.{◌≡◌, ℕ, true, false, List, Result, Ok, Err}
 use Rattle.session_commands.specs.Settings.{is_rdb_name}
 use Rattle.half_store.specs.Fresh.{is_name, is_store_of}
-use Rattle.half_store.specs.declared.header.Layout.TheVariants.{Two}
 use Rattle.recovery.specs.Durable.{fresh}
 use Rattle.recovery.specs.Journaled.{OnDisk}
 use Rattle.durable_core.specs.Opening.{IsOpenedTo}
@@ -54,18 +53,6 @@ MakesFile size rdb (Err NoRoom) = ⊥
 abbrev pub FindsFresh : {D : Type 0} → List ℕ → Result (OnDisk D) Fault → Type 0
 FindsFresh name (Ok core) = IsOpenedTo name fresh core
 FindsFresh name (Err fault) = IsOfDevice fault
-
--- a store is made in memory, of layout 2, and opened; the name that none has is a bad argument, before anything else
-abbrev pub BeginsFresh : {D : Type 0} → List ℕ → Result (OnDisk D) Fault → Type 0
-BeginsFresh name (Ok core) = (is_name name ≡ true) × IsOpenedTo name fresh core × (core.layout ≡ Two)
-BeginsFresh name (Err BadArguments) = is_name name ≡ false
-BeginsFresh name (Err Device) = is_name name ≡ true
-BeginsFresh name (Err NotAStore) = ⊥
-BeginsFresh name (Err (Damaged at)) = ⊥
-BeginsFresh name (Err BadEvent) = ⊥
-BeginsFresh name (Err NoMemory) = is_name name ≡ true
-BeginsFresh name (Err NotInDoubt) = ⊥
-BeginsFresh name (Err NoRoom) = ⊥
 
 -- why no node is started over a core of this name: the name is none of a database, or memory was refused
 abbrev pub RefusesName : List ℕ → Fault → Type 0

@@ -9,5 +9,5 @@ mod streams;
 
 pub use fault::Fault;
 pub use files::{StoreFiles, SystemFiles};
-pub use stores::{fault_of, fresh, make_file, open_file};
+pub use stores::{fault_of, fresh, make_file, open_file, open_to_run};
 pub use streams::{flush, tell};

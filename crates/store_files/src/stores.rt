@@ -6,8 +6,9 @@ ghost use Rattle.half_store.specs.Fresh.{IsFresh, IsNoneOrFresh, IsUnmarked, is_
 ghost use Rattle.recovery.specs.Durable.{fresh as fresh_store};
 ghost use Rattle.recovery.specs.Opens.{OpensTo};
 ghost use Rattle.store_files.specs.Endings.{fault_for};
-ghost use Rattle.store_files.specs.Opening.{IsMade, IsOpened, LeavesNone, OpensStore};
-ghost use Rattle.store_files.specs.Stores.{BeginsFresh, FindsFresh, MakesFile, MakesNamed};
+ghost use Rattle.store_files.specs.InMemory.{BeginsFresh};
+ghost use Rattle.store_files.specs.Opening.{HasSettled, IsMade, IsOpened, LeavesNone, OpensSettled, OpensStore};
+ghost use Rattle.store_files.specs.Stores.{FindsFresh, MakesFile, MakesNamed};
 
 use crate::blocks::reserve_blocks;
 use crate::fault::Fault;
@@ -87,6 +88,7 @@ pub fn make_file<F: StoreFiles>(
 /// The core over the store that a disk is.
 fn open_disk<D: Disk + Drop>(alloc: Global, disk: D) -> Result<DurableCore<D>, Fault>
     ensures opened { IsOpened D.is_modelled D.life disk result }
+    ensures settled { HasSettled D.is_modelled D.life D.syncs disk result }
     ensures fresh { (name : List ℕ) → IsTrue D.is_modelled → OpensTo name fresh_store (D.life disk).seen → FindsFresh name result }
 {
     match durable_core::open(alloc, disk) {
@@ -114,6 +116,17 @@ pub fn open_file<F: StoreFiles>(
     path: &str,
 ) -> Result<DurableCore<F::Disk>, Fault>
     ensures { OpensStore F.Disk.is_modelled F.Disk.life F.calls files.old path.now result files.new }
+{
+    open_to_run(alloc, files, path)
+}
+
+/// The core over the store of a path, for a run: the first call that its disk had was a sync, before anything was read.
+pub fn open_to_run<F: StoreFiles>(
+    alloc: Global,
+    files: &mut F,
+    path: &str,
+) -> Result<DurableCore<F::Disk>, Fault>
+    ensures { OpensSettled F.Disk.is_modelled F.Disk.life F.calls F.Disk.syncs files.old path.now result files.new }
 {
     match files.open(path) {
         Ok(disk) => open_disk(alloc, disk),

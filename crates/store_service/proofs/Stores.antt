@@ -1,7 +1,7 @@
 -- From an opening and a run over its core to the whole.
 use Rattle.std.proofs.Common.{◌≡◌, ◌⊎◌, inl, inr, ℕ, Bool, true, List, [], ◌++◌, arith, Option, Some, IfSome, Result, Ok, Err, refl, sym, ◌∙◌, ap, subst}
-use Rattle.drda_disk.specs.Disk.{LeavesOnly, Life, Now, Only, Stays}
-use Rattle.drda_disk.proofs.Moments.{weaker}
+use Rattle.drda_disk.specs.Disk.{LeavesOnly, Life, Now, Stays}
+use Rattle.drda_disk.proofs.Moments.{stays_and, weaker}
 use Rattle.session_commands.specs.Settings.{Settings}
 use Rattle.unit_records.specs.MadeRecords.{MadeRecords, groups_of, with_begun, with_done}
 use Rattle.unit_records.specs.Records.{UnitRecord}
@@ -14,7 +14,7 @@ use Rattle.recovery.specs.Part.{durable_part, opened}
 use Rattle.recovery.specs.Opens.{OpensTo}
 use Rattle.recovery.specs.StepLaws.{OpeningsAreKept}
 use Rattle.recovery.specs.Journaled.{FaultsAfter, OnDisk, OpensAfterAll, OpensAfterSome, all_in}
-use Rattle.durable_core.specs.Opening.{IsOpenedTo, StoodThere}
+use Rattle.durable_core.specs.Opening.{IsOpenedTo, SettlesFirst, StoodThere, SyncsFirst}
 use Rattle.durable_core.specs.Reads.{CountsError, IsExcused}
 use Rattle.durable_core.specs.declared.errors.Refused.{Refused}
 use Rattle.durable_core.specs.declared.errors.OpenError.{OpenError}
@@ -36,13 +36,13 @@ pub record SerialLaws : Type 0 where
   pub openings : SaneOpeningsBegin
   pub serial : MachinesAreSerial
 
-module _ {D : Type 0} (modelled : Bool) (life : D → Life) (sound : ImagesAreSound) (kept : OpeningsAreKept) (laws : SerialLaws) where
+module _ {D : Type 0} (modelled : Bool) (life : D → Life) (syncs : D → Bool → D → Type 0) (sound : ImagesAreSound) (kept : OpeningsAreKept) (laws : SerialLaws) where
   module _ (name : List ℕ) (d : Durable) (user password : List ℕ) (disk : D) (store : IsStore modelled name d (life disk)) where
     -- what is durable of a core that was just opened
     part_is : durable_part (opened d) ≡ d
     part_is = (kept d (sound name d (life disk).seen store.opens)).part
 
-    module _ (core : OnDisk D) (is : IsOpenedTo name d core) (stood : StoodThere (life disk).seen core) (stays : Stays (life disk) (life core.disk)) (only : Only (life core.disk)) (quiet : (life core.disk).faults ≡ (life disk).faults) where
+    module _ (core : OnDisk D) (is : IsOpenedTo name d core) (stood : StoodThere (life disk).seen core) (first : SettlesFirst life syncs disk core.disk) (stays : Stays (life disk) (life core.disk)) (quiet : (life core.disk).faults ≡ (life disk).faults) where
       over : asked_of modelled core ≡ core_over d core.layout core.room
       over = λ i. record { is_told = store.modelled_is i; state = is.state i; layout = core.layout; room = core.room; has_failed = is.going i; made = is.made i; calls = [] }
 
@@ -100,19 +100,31 @@ module _ {D : Type 0} (modelled : Bool) (life : D → Life) (sound : ImagesAreSo
             (subst (λ (ls : List AnsweredCall). SerialRun core.state.base.store (committed core.state ls) goes.last.core.state.base.store) (sym calls_are)
             (laws.serial (asked_of modelled core) goes.last.core goes.history.0 store.modelled_is begins goes.history.1))
 
-        -- since the disk was opened
-        since : (groups begun : List (List UnitRecord)) → LeavesOnly (life core.disk) (life goes.new.disk) (OpensAfterSome core.name (durable_part core.state) (groups ++ begun)) → LeavesOnly (life core.disk) (life given) (OpensAfterSome name d (groups ++ begun))
-        since groups begun all = subst (λ (x : D). LeavesOnly (life core.disk) (life x) (OpensAfterSome name d (groups ++ begun))) (sym goes.disk_is) (weaker (life core.disk) (life goes.new.disk) _ _ all (same_some (groups ++ begun)))
+        -- what is read behind the first sync opens to the state
+        at_first : (groups : List (List UnitRecord)) (image : List ℕ) → Now (life first.synced) image → OpensAfterSome name d groups image
+        at_first groups image now = record {
+          count = 0;
+          state = d;
+          leads = refl;
+          opens = subst (λ (i : List ℕ). OpensTo name d i) (sym (first.only image now ∙ first.unwritten.same)) store.opens;
+        }
+
+        -- since that sync
+        since : (groups begun : List (List UnitRecord)) → LeavesOnly (life core.disk) (life goes.new.disk) (OpensAfterSome core.name (durable_part core.state) (groups ++ begun)) → LeavesOnly (life first.synced) (life given) (OpensAfterSome name d (groups ++ begun))
+        since groups begun all =
+            stays_and (life first.synced) (life core.disk) (life given) (OpensAfterSome name d (groups ++ begun)) first.reads_on
+            (subst (λ (x : D). LeavesOnly (life core.disk) (life x) (OpensAfterSome name d (groups ++ begun))) (sym goes.disk_is) (weaker (life core.disk) (life goes.new.disk) _ _ all (same_some (groups ++ begun))))
+            (at_first (groups ++ begun))
 
         -- and before
-        ever : (groups begun : List (List UnitRecord)) → LeavesOnly (life core.disk) (life given) (OpensAfterSome name d (groups ++ begun)) → (image : List ℕ) → (life given).left_since (life disk).moment image → Now (life disk) image ⊎ OpensAfterSome name d (groups ++ begun) image
-        ever groups begun all image left = by_time (all.before (life disk).moment image stays.later left)
+        ever : (groups begun : List (List UnitRecord)) → LeavesOnly (life first.synced) (life given) (OpensAfterSome name d (groups ++ begun)) → (image : List ℕ) → (life given).left_since (life disk).moment image → Now (life disk) image ⊎ OpensAfterSome name d (groups ++ begun) image
+        ever groups begun all image left = by_time (all.before (life disk).moment image first.unwritten.later left)
           where
-            by_time : (life core.disk).left_since (life disk).moment image ⊎ OpensAfterSome name d (groups ++ begun) image → Now (life disk) image ⊎ OpensAfterSome name d (groups ++ begun) image
-            by_time (inl first) = inl (stays.nothing_new (life disk).moment image (omega arith) first)
+            by_time : (life first.synced).left_since (life disk).moment image ⊎ OpensAfterSome name d (groups ++ begun) image → Now (life disk) image ⊎ OpensAfterSome name d (groups ++ begun) image
+            by_time (inl was) = inl (first.unwritten.nothing_new (life disk).moment image (omega arith) was)
             by_time (inr o) = inr o
 
-        pub has_run : HasRun life name d (record { user = user; password = password; rdb = name }) disk given input before end now
+        pub has_run : HasRun life syncs name d (record { user = user; password = password; rdb = name }) disk given input before end now
         has_run =
             let (groups, begun, made) = goes.journaled.records store.modelled_is is.going in
             let all = since groups begun made.moments in
@@ -120,8 +132,7 @@ module _ {D : Type 0} (modelled : Bool) (life : D → Life) (sound : ImagesAreSo
               core = core;
               is_opened = is;
               stood = stood;
-              unwritten = stays;
-              settled_first = only;
+              settled_first = first;
               last = goes.last;
               runs = runs_from input goes.runs;
               left_core = goes.new;
@@ -142,16 +153,17 @@ module _ {D : Type 0} (modelled : Bool) (life : D → Life) (sound : ImagesAreSo
               left = λ image now. same_all groups begun image (made.left image (subst (λ (x : D). Now (life x) image) goes.disk_is now));
             }
 
-      gives_back : (before now : Option (List ℕ)) (given : D) (error : OpenError) → GivesBack life core given error before now → IsRefused name error (life disk) (life given) before now
+      gives_back : (before now : Option (List ℕ)) (given : D) (error : OpenError) → GivesBack life core given error before now → IsRefused life syncs name error disk given before now
       gives_back before now given error g = record {
         refusal = subst (λ (n : List ℕ). IsRefusal n error) is.named g.refusal;
+        first = inl (subst (λ (x : D). SettlesFirst life syncs disk x) (sym g.disk_is) first);
         stays = subst (λ (x : D). Stays (life disk) (life x)) (sym g.disk_is) stays;
         cause = subst (λ (x : D). CountsError error (life disk).faults (life x).faults) (sym g.disk_is)
             (subst (λ (n : ℕ). CountsError error n (life core.disk).faults) quiet g.cause);
         silent = g.silent;
       }
 
-      pub runs_over : (input before now : Option (List ℕ)) (given : D) (r : Result RunEnd OpenError) → RunsOver life modelled user password core input before given r now → RunsFrom life name d user password disk input before given r now
+      pub runs_over : (input before now : Option (List ℕ)) (given : D) (r : Result RunEnd OpenError) → RunsOver life modelled user password core input before given r now → RunsFrom life syncs name d user password disk input before given r now
       runs_over input before now given (Ok end) goes = has_run input before now given end goes
       runs_over input before now given (Err error) g = gives_back before now given error g
 
@@ -163,9 +175,9 @@ refusal_of name (Damaged at) is = absurd is
 refusal_of name DeviceFailed is = tt
 refusal_of name NoMemory is = tt
 
-pub refused_so : {D : Type 0} (life : D → Life) (name : List ℕ) (disk : D) (refused : Refused D) → IsExcused refused.error → Stays (life disk) (life refused.disk) → CountsError refused.error (life disk).faults (life refused.disk).faults → (w : Option (List ℕ))
-    → IsRefused name refused.error (life disk) (life refused.disk) w w
-refused_so life name disk refused is stays cause w = record { refusal = refusal_of name refused.error is; stays = stays; cause = cause; silent = refl }
+pub refused_so : {D : Type 0} (life : D → Life) (syncs : D → Bool → D → Type 0) (name : List ℕ) (disk : D) (refused : Refused D) → IsExcused refused.error → SyncsFirst life syncs disk (Err refused) → Stays (life disk) (life refused.disk)
+    → CountsError refused.error (life disk).faults (life refused.disk).faults → (w : Option (List ℕ)) → IsRefused life syncs name refused.error disk refused.disk w w
+refused_so life syncs name disk refused is first stays cause w = record { refusal = refusal_of name refused.error is; first = first; stays = stays; cause = cause; silent = refl }
 
 -- ---- a node that ran
 

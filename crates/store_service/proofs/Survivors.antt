@@ -14,7 +14,7 @@ use Rattle.drda_node.specs.declared.serving.RunEnd.{RunEnd}
 use Rattle.durable_core.specs.declared.errors.OpenError.{OpenError}
 use Rattle.durable_core.specs.Reads.{IsExcused}
 use Rattle.store_service.specs.Running.{HasRun, IsRefusal, IsSettledStore, RunsFrom}
-use Rattle.store_service.specs.Surviving.{IsPicked, Survives, fused}
+use Rattle.store_service.specs.Surviving.{IsPicked, Survives, fused, fused_syncs}
 use Rattle.store_service.proofs.Stores.{refusal_of}
 
 -- a fuse changes nothing of what is read, or left by a crash
@@ -31,7 +31,7 @@ pub record LeftState (name : List ℕ) (d : Durable) (user password : List ℕ) 
 
 module _ (name : List ℕ) (d : Durable) (user password input : List ℕ) (disk : MemDisk) (calls pick : ℕ) (f left : FuseDisk MemDisk) (inside : inner_of f ≡ disk) (fails_after : left_of f ≡ Some calls) (store : IsSettledStore true name d (fused f)) (replies image : List ℕ)
     (picked : IsPicked pick left image) where
-  ran_to : (end : RunEnd) (ran : HasRun fused name d (record { user = user; password = password; rdb = name }) f left (Some input) (Some []) end (Some replies)) → OpensAfterAll name d ran.groups ran.begun image
+  ran_to : (end : RunEnd) (ran : HasRun fused fused_syncs name d (record { user = user; password = password; rdb = name }) f left (Some input) (Some []) end (Some replies)) → OpensAfterAll name d ran.groups ran.begun image
       → LeftState name d user password disk calls pick input image (Ok end)
   ran_to end ran (inl o) = record {
     state = o.state;
@@ -44,7 +44,7 @@ module _ (name : List ℕ) (d : Durable) (user password input : List ℕ) (disk 
     survives = λ told is. record { first = f; inside = inside; fails_after = fails_after; left = left; replies = replies; run = ran; image = image; picked = picked; state = o.state; opens = o.opens; leads = inr o.leads; told_is = is };
   }
 
-  pub left_state : (r : Result RunEnd OpenError) → RunsFrom fused name d user password f (Some input) (Some []) left r (Some replies) → LeftState name d user password disk calls pick input image r
+  pub left_state : (r : Result RunEnd OpenError) → RunsFrom fused fused_syncs name d user password f (Some input) (Some []) left r (Some replies) → LeftState name d user password disk calls pick input image r
   left_state (Ok end) ran = ran_to end ran (ran.left image picked.now)
   left_state (Err error) refused =
       let same : image ≡ (fused f).seen = store.only image (refused.stays.no_more image picked.now) in
@@ -62,7 +62,7 @@ told_so name d user password disk calls pick input image r left (Ok told) is = l
 told_so name d user password disk calls pick input image r left (Err error) is = tt
 
 -- why the run was refused
-pub run_refused : (name : List ℕ) (d : Durable) (user password : List ℕ) (f left : FuseDisk MemDisk) (input before now : Option (List ℕ)) (r : Result RunEnd OpenError) → RunsFrom fused name d user password f input before left r now → IfErr r (IsRefusal name)
+pub run_refused : (name : List ℕ) (d : Durable) (user password : List ℕ) (f left : FuseDisk MemDisk) (input before now : Option (List ℕ)) (r : Result RunEnd OpenError) → RunsFrom fused fused_syncs name d user password f input before left r now → IfErr r (IsRefusal name)
 run_refused name d user password f left input before now (Ok end) ran = tt
 run_refused name d user password f left input before now (Err error) refused = refused.refusal
 

@@ -13,7 +13,7 @@ use Rattle.core_model.specs.Laws.{IsSane}
 use Rattle.serializability.specs.Answered.{CallsLead, SerialRun, committed}
 use Rattle.recovery.specs.Opens.{OpensTo}
 use Rattle.recovery.specs.Journaled.{FaultsAfter, Journaled, OnDisk, OpensAfterAll, OpensAfterSome, all_in, shown_on}
-use Rattle.durable_core.specs.Opening.{IsOpenedTo, StoodThere}
+use Rattle.durable_core.specs.Opening.{FailsToSync, IsOpenedTo, SettlesFirst, StoodThere}
 use Rattle.durable_core.specs.Reads.{CountsError}
 use Rattle.durable_core.specs.declared.errors.OpenError.{OpenError}
 use Rattle.durable_core.specs.declared.errors.OpenError.TheVariants.{Damaged, DeviceFailed, NoMemory, NotAStore}
@@ -41,18 +41,18 @@ pub record IsSettledStore (modelled : Bool) (name : List ℕ) (d : Durable) (dis
 abbrev pub core_over : Durable → Layout → ℕ → AskedCore
 core_over d layout room = record { is_told = true; state = opened d; layout = layout; room = room; has_failed = false; made = none_made; calls = [] }
 
-module _ {D : Type 0} (life : D → Life) where
+module _ {D : Type 0} (life : D → Life) (syncs : D → Bool → D → Type 0) where
   -- A machine that begins with the state answered the input, station by station. Groups of records were made of its calls, and
   -- perhaps one was begun in the call in which the device failed; what was made leads from the state to what is durable of it.
-  -- The opening settles by a sync that a crash leaves what is read. A crash at any moment from then on leaves the state after the
-  -- first of these groups; and at the end after all that was made, or with it all that was begun.
+  -- The opening's first device call, before anything is read, is a sync, behind which a crash leaves what is read. A crash at any
+  -- moment from then on leaves the state after the first of these groups; and at the end after all that was made, or with it all
+  -- that was begun.
   pub record HasRun (name : List ℕ) (d : Durable) (settings : Settings) (old new : D) (input before : Option (List ℕ)) (end : RunEnd) (now : Option (List ℕ)) : Type 0 where
     -- the core that was opened: its layout and its room are those of what stood on the disk
     pub core : OnDisk D
     pub is_opened : IsOpenedTo name d core
     pub stood : StoodThere (life old).seen core
-    pub unwritten : Stays (life old) (life core.disk)
-    pub settled_first : Only (life core.disk)
+    pub settled_first : SettlesFirst life syncs old core.disk
     -- the machine over it, and the core that it left on the disk
     pub last : Machine
     pub runs : IfSome input (λ bytes. Runs (at_start settings (core_over d core.layout core.room)) bytes before end now last)
@@ -73,8 +73,8 @@ module _ {D : Type 0} (life : D → Life) where
     pub lead : replayed_from d (all_in groups) ≡ Some (durable_part last.core.state)
     pub settled : last.core.has_failed ≡ false → begun ≡ []
     pub faults : FaultsAfter true last.core.has_failed (life old).faults (life new).faults
-    pub moments : LeavesOnly (life core.disk) (life new) (OpensAfterSome name d (groups ++ begun))
-    -- in the opening, until it has synced, a crash leaves what it might have left before
+    pub moments : LeavesOnly (life settled_first.synced) (life new) (OpensAfterSome name d (groups ++ begun))
+    -- in that first sync a crash leaves what it might have left before
     pub any_moment : (image : List ℕ) → (life new).left_since (life old).moment image → Now (life old) image ⊎ OpensAfterSome name d (groups ++ begun) image
     pub left : (image : List ℕ) → Now (life new) image → OpensAfterAll name d groups begun image
 
@@ -85,11 +85,13 @@ IsRefusal name (Damaged at) = ⊥
 IsRefusal name DeviceFailed = Unit {0}
 IsRefusal name NoMemory = Unit {0}
 
--- nothing was written, and a call of the device has failed exactly where that is told
-pub record IsRefused (name : List ℕ) (error : OpenError) (old new : Life) (before now : Option (List ℕ)) : Type 0 where
+-- Nothing was written, and a call of the device has failed exactly where that is told. Its first call was a sync, as of a run; where
+-- that failed nothing was read.
+pub record IsRefused {D : Type 0} (life : D → Life) (syncs : D → Bool → D → Type 0) (name : List ℕ) (error : OpenError) (old new : D) (before now : Option (List ℕ)) : Type 0 where
   pub refusal : IsRefusal name error
-  pub stays : Stays old new
-  pub cause : CountsError error old.faults new.faults
+  pub first : SettlesFirst life syncs old new ⊎ FailsToSync syncs error old new
+  pub stays : Stays (life old) (life new)
+  pub cause : CountsError error (life old).faults (life new).faults
   pub silent : now ≡ before
 
 -- a machine over a core answered the input, and core and disk are those of one that went on from there
@@ -103,17 +105,18 @@ pub record GoesFrom {D : Type 0} (modelled : Bool) (life : D → Life) (old : On
   pub runs : IfSome input (λ bytes. Runs first bytes before end now last)
   pub stations : IfSome input (λ bytes. RunsAlong modelled life (first_station first old) bytes before now new)
 
-module _ {D : Type 0} (life : D → Life) where
+module _ {D : Type 0} (life : D → Life) (syncs : D → Bool → D → Type 0) where
   abbrev pub RunsFrom : List ℕ → Durable → List ℕ → List ℕ → D → Option (List ℕ) → Option (List ℕ) → D → Result RunEnd OpenError → Option (List ℕ) → Type 0
-  RunsFrom name d user password old input before new (Ok end) now = HasRun life name d (record { user = user; password = password; rdb = name }) old new input before end now
-  RunsFrom name d user password old input before new (Err error) now = IsRefused name error (life old) (life new) before now
+  RunsFrom name d user password old input before new (Ok end) now = HasRun life syncs name d (record { user = user; password = password; rdb = name }) old new input before end now
+  RunsFrom name d user password old input before new (Err error) now = IsRefused life syncs name error old new before now
 
   -- the disk that is handed back, and what became of the run
   abbrev pub RunsStore : List ℕ → Durable → List ℕ → List ℕ → D → Option (List ℕ) → Option (List ℕ) → D × Result RunEnd OpenError → Option (List ℕ) → Type 0
   RunsStore name d user password old input before given now = RunsFrom name d user password old input before given.0 given.1 now
 
-  -- ---- from a core on
+-- ---- from a core on
 
+module _ {D : Type 0} (life : D → Life) where
   pub record GivesBack (old : OnDisk D) (disk : D) (error : OpenError) (before now : Option (List ℕ)) : Type 0 where
     pub refusal : IsRefusal old.name error
     pub disk_is : disk ≡ old.disk

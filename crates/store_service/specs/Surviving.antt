@@ -1,5 +1,5 @@
 -- What a crash leaves of a run.
-use Rattle.std.specs.Prelude.{◌≡◌, ◌⊎◌, ℕ, List, [], ◌++◌, Some, Result, Ok, Err}
+use Rattle.std.specs.Prelude.{◌≡◌, ◌≢◌, ◌⊎◌, ℕ, Bool, List, [], ◌++◌, Some, Result, Ok, Err}
 use Rattle.core_model.specs.Step.{CoreState}
 use Rattle.drda_disk.specs.Disk.{Life, Now}
 use Rattle.drda_disk.specs.FuseDisk as fuse
@@ -20,6 +20,10 @@ use Rattle.store_service.specs.Running.{HasRun}
 abbrev pub fused : FuseDisk MemDisk → Life
 fused f = fuse.life_of life_of f
 
+-- its syncs, of which those that the fuse passes on are the disk's
+abbrev pub fused_syncs : FuseDisk MemDisk → Bool → FuseDisk MemDisk → Type 0
+fused_syncs f ok f' = left_of f ≢ Some 0 → (read_of (inner_of f') ≡ read_of (inner_of f)) × (synced_of (inner_of f') ≡ read_of (inner_of f))
+
 -- the image that is picked of those that a crash leaves of a disk in memory: none of the writes since the last sync, all of them,
 -- or any other one
 pub record IsPicked (pick : ℕ) (left : FuseDisk MemDisk) (image : List ℕ) : Type 0 where
@@ -35,7 +39,7 @@ pub record HasSurvived (name : List ℕ) (d : Durable) (settings : Settings) (di
   pub fails_after : left_of first ≡ Some calls
   pub left : FuseDisk MemDisk
   pub replies : List ℕ
-  pub run : HasRun fused name d settings first left (Some input) (Some []) end (Some replies)
+  pub run : HasRun fused fused_syncs name d settings first left (Some input) (Some []) end (Some replies)
   pub image : List ℕ
   pub picked : IsPicked pick left image
   pub state : Durable

@@ -18,8 +18,8 @@ use std::io::Write;
 /// does, and hands the disk back.
 ///
 /// What is read of the disk opens to a state: committed tables, and units in doubt with their claims; a crash may
-/// leave other images of it, as of the disk of a server that was killed. The opening syncs it, and behind that a
-/// crash leaves what is read. Then what is written is the answers of a machine of plain tables that begins
+/// leave other images of it, as of the disk of a server that was killed. The opening's first device call is a sync, before
+/// anything is read, and behind that a crash leaves what is read. Then what is written is the answers of a machine of plain tables that begins
 /// with that state (`Runs`). The calls that were asked, with these answers, lead from that state to the last one, and
 /// the units that were committed by them have a serial order (`SerialRun`), where each change of a unit that was
 /// found in doubt lies in its write claims. The records of what its calls committed, prepared and decided, in their order, lead from
@@ -30,8 +30,8 @@ use std::io::Write;
 /// at each later moment: so every answered commit is there, and every unit answered as prepared and undecided
 /// is in doubt, holding its claims.
 ///
-/// Refused, nothing is written: memory was refused, the device failed, which its count of faults tells too, or the
-/// name of the store is none of a database (`NotAStore`). A disk that does not open to a state is refused as
+/// Refused, nothing is written: memory was refused, the device failed, which its count of faults tells too, and before
+/// anything is read where it failed in that first sync, or the name of the store is none of a database (`NotAStore`). A disk that does not open to a state is refused as
 /// `durable_core::open` says.
 pub fn run_store<D: Disk + Drop, R: Ready, W: Write>(
     alloc: Global,
@@ -42,17 +42,14 @@ pub fn run_store<D: Disk + Drop, R: Ready, W: Write>(
     writer: &mut W,
 ) -> (D, Result<RunEnd, OpenError>)
     ensures { (name : List ℕ) (d : Durable) → IsStore D.is_modelled name d (D.life disk)
-        → RunsStore D.life name d user.now password.now disk (R.remaining reader.old) (W.contents writer.old) result (W.contents writer.new) }
+        → RunsStore D.life D.syncs name d user.now password.now disk (R.remaining reader.old) (W.contents writer.old) result (W.contents writer.new) }
 {
     openings_begin_histories();
     openings_are_kept();
     calls_are_histories();
     machines_are_serial();
     match open(alloc, disk) {
-        Ok(core) => {
-            core.is_durable();
-            run_core(alloc, core, user, password, reader, writer)
-        }
+        Ok(core) => run_core(alloc, core, user, password, reader, writer),
         Err(refused) => (refused.disk, Err(refused.error)),
     }
 }

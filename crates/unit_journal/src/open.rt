@@ -1,7 +1,7 @@
 //! Reading the records back.
 ghost use Rattle.std.specs.Prelude.{◌≡◌, ◌+◌, ◌-◌, ◌^◌, ◌<◌, ◌≤◌, List, IsTrue, length, IfOk, IfSome, IsNone};
 ghost use Rattle.std.specs.Int.{w32, from_be_bytes, to_be_bytes};
-ghost use Rattle.drda_disk.specs.Disk.{Stays};
+ghost use Rattle.drda_disk.specs.Disk.{Only, Stays};
 ghost use Rattle.drda_disk.specs.Region.{end_of};
 ghost use Rattle.unit_journal.specs.Record.{Entry};
 ghost use Rattle.unit_journal.specs.Stands.{Stands};
@@ -83,7 +83,7 @@ impl Journal {
 
     /// The journal of a region, and its records in order: those up to the first closed gate. Nothing
     /// is written, and nothing is held. The region has at least a byte and at most 2^32, and lies in
-    /// the disk.
+    /// the disk. A crash leaves what is read, as behind a sync: so what is found is there to stay.
     ///
     /// `Damaged` comes exactly where an open gate has no record behind it: its kind is not known, or
     /// the record runs past the region less one byte. Its `at` is that gate's offset on the disk, and
@@ -96,6 +96,7 @@ impl Journal {
         requires some { 0 < region.length }
         requires small { region.length ≤ 2 ^ 32 }
         requires inside { end_of region ≤ length (D.life disk.old).seen }
+        requires settled { Only (D.life disk.old) }
         ensures reads { IsTrue D.is_modelled → ReadsRegion region D.is_modelled (D.life disk.old).seen (D.life disk.new) result }
         // Where these records stand there, they are found and no damage is told.
         ensures found { (es : List Entry) → IsTrue D.is_modelled → Stands region es (D.life disk.old).seen → IfOk result (IsOpened D.is_modelled (D.life disk.new) region es) }
@@ -104,7 +105,6 @@ impl Journal {
         ensures stays { Stays (D.life disk.old) (D.life disk.new) }
         ensures cause { CountsOpen result (D.life disk.old).faults (D.life disk.new).faults }
     {
-        disk.sync()?;
         let limit = region.at + region.length;
         let mut records = Vec::new(alloc);
         let mut at = region.at;

@@ -1,4 +1,5 @@
 use Rattle.std.proofs.Common.{rules, ◌≡◌, ◌<◌, ℕ, List, refl, sym, ◌∙◌, ap, subst, arith}
+use Rattle.drda_disk.proofs.Moments.{Only-stays}
 use Rattle.unit_journal.specs.Journal.{held_of, room_of}
 use Rattle.unit_journal.specs.Record.{entries_of}
 use Rattle.unit_journal.specs.declared.record.Record.{Record}
@@ -19,6 +20,9 @@ use Rattle.durable_core.specs.Reads.{TellsDamage}
 use Rattle.durable_core.proofs.Parts.{found_all, held_plain, in_front, journal_plain, passed_on, settled_on, tables_plain, units_plain}
 use Rattle.durable_core.proofs.Telling.{bad_page, handed_on, is_short, misplaced, no_record, no_room, told}
 use Rattle.durable_core.proofs.opening.read_store.Goals as goal
+
+pub read_journal-requires-clause-settled : goal.read_journal-requires-clause-settled
+read_journal-requires-clause-settled g c = Only-stays _ _ c.in_ok-tables.ensures.stays (Only-stays _ _ c.in_ok-active.ensures.stays c.requires.settled)
 
 pub returns-in_err-tables-clause-opens : goal.returns-in_err-tables-clause-opens
 returns-in_err-tables-clause-opens g c name d is opens =

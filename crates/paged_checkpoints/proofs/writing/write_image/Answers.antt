@@ -35,6 +35,7 @@ returns-in-Ok-clause-done g c readable base is =
     first (c.pages.result - first) (all_shown c.args.tables) (entries_of c.args.records.now) c.args.held is c.write_pages.ensures.adds
     (g.met.D.Disk.read_is_image c.write_pages.new.disk is.modelled_disk) (ap (λ n. n - first) c.pages.ensures) (c.in_ok-written.ensures.checkpoint readable)
     (g.D.Disk.life c.finish_image.new.disk) c.in-Ok.switched (c.in-Ok.ensures.done base (c.write_pages.ensures.adds.writing base (store_of c.args.active.now) is)) c.in-Ok.ensures.store c.in-Ok.ensures.behind c.in-Ok.ensures.held
+    (c.in_ok-written.ensures.pages readable)
 
 pub returns-in-Ok-clause-stand : goal.returns-in-Ok-clause-stand
 returns-in-Ok-clause-stand g c readable base is =

@@ -13,3 +13,6 @@ returns-in-Err-clause-opened g c = record { error = c.in-Err.refused.error; repo
 
 pub returns-in-Err-clause-fresh : goal.returns-in-Err-clause-fresh
 returns-in-Err-clause-fresh g c name is opens = excused_so c.fault_of.result c.in-Err.refused.error c.fault_of.ensures (c.in-Err.ensures.opens name fresh is opens)
+
+pub returns-in-Ok-clause-settled : goal.returns-in-Ok-clause-settled
+returns-in-Ok-clause-settled g c = c.in-Ok.ensures.first

@@ -10,9 +10,9 @@ returns-in-Ok g c name d store =
       openings = c.machines_are_serial.ensures.openings;
       serial = c.machines_are_serial.ensures.serial;
     } in
-    runs_over g.D.Disk.is_modelled g.D.Disk.life c.openings_begin_histories.ensures.sound c.openings_are_kept.ensures laws name d c.args.user.now c.args.password.now c.args.disk store c.in-Ok.core
-    (c.in-Ok.ensures.opens name d store.modelled_is store.opens) (c.in-Ok.ensures.found store.modelled_is) c.in-Ok.ensures.stays (c.is_durable.ensures store.modelled_is (c.in-Ok.ensures.opens name d store.modelled_is store.opens).going).only c.in-Ok.ensures.cause
+    runs_over g.D.Disk.is_modelled g.D.Disk.life g.D.Disk.syncs c.openings_begin_histories.ensures.sound c.openings_are_kept.ensures laws name d c.args.user.now c.args.password.now c.args.disk store c.in-Ok.core
+    (c.in-Ok.ensures.opens name d store.modelled_is store.opens) (c.in-Ok.ensures.found store.modelled_is) c.in-Ok.ensures.first c.in-Ok.ensures.stays c.in-Ok.ensures.cause
     (g.R.Read.remaining c.args.reader.now) (g.W.Write.contents c.args.writer.now) (g.W.Write.contents c.run_core.new.writer) c.run_core.result.0 c.run_core.result.1 c.run_core.ensures
 
 pub returns-in-Err : goal.returns-in-Err
-returns-in-Err g c name d store = refused_so g.D.Disk.life name c.args.disk c.in-Err.refused (c.in-Err.ensures.opens name d store.modelled_is store.opens) c.in-Err.ensures.stays c.in-Err.ensures.cause (g.W.Write.contents c.args.writer.now)
+returns-in-Err g c name d store = refused_so g.D.Disk.life g.D.Disk.syncs name c.args.disk c.in-Err.refused (c.in-Err.ensures.opens name d store.modelled_is store.opens) c.in-Err.ensures.first c.in-Err.ensures.stays c.in-Err.ensures.cause (g.W.Write.contents c.args.writer.now)

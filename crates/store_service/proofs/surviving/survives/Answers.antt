@@ -3,7 +3,7 @@ use Rattle.drda_disk.specs.Disk.{Now}
 use Rattle.drda_disk.specs.MemDisk.{life_of, read_of, synced_of}
 use Rattle.drda_disk.specs.declared.memory.MemDisk.{MemDisk}
 use Rattle.store_service.specs.Running.{RunsFrom}
-use Rattle.store_service.specs.Surviving.{IsPicked, fused}
+use Rattle.store_service.specs.Surviving.{IsPicked, fused, fused_syncs}
 use Rattle.store_service.proofs.Survivors.{behind_fuse, left_state, refused_so, run_refused, told_so}
 use Rattle.store_service.proofs.surviving.survives.Goals as goal
 
@@ -18,8 +18,8 @@ returns-clause-ok c name d store =
       none = λ zero. c.after_crash.ensures.none zero ∙ ap synced_of c.into_inner.ensures;
       all = λ one. c.after_crash.ensures.all one ∙ ap read_of c.into_inner.ensures;
     } in
-    let ran : RunsFrom fused name d c.args.user.now c.args.password.now f (Some c.args.input.now) (Some []) left c.run_store-left.result.1 (Some c.run_store-left.new.writer.items) =
-    subst (λ (w : List ℕ). RunsFrom fused name d c.args.user.now c.args.password.now f (Some c.args.input.now) (Some w) left c.run_store-left.result.1 (Some c.run_store-left.new.writer.items)) c.new-written.ensures.items (c.run_store-left.ensures name d fused_store.store) in
+    let ran : RunsFrom fused fused_syncs name d c.args.user.now c.args.password.now f (Some c.args.input.now) (Some []) left c.run_store-left.result.1 (Some c.run_store-left.new.writer.items) =
+    subst (λ (w : List ℕ). RunsFrom fused fused_syncs name d c.args.user.now c.args.password.now f (Some c.args.input.now) (Some w) left c.run_store-left.result.1 (Some c.run_store-left.new.writer.items)) c.new-written.ensures.items (c.run_store-left.ensures name d fused_store.store) in
     let there = left_state name d c.args.user.now c.args.password.now c.args.input.now c.args.disk c.args.calls c.args.pick f left c.new-fuse.ensures.inner c.new-fuse.ensures.left fused_store c.run_store-left.new.writer.items image picked c.run_store-left.result.1 ran in
     told_so name d c.args.user.now c.args.password.now c.args.disk c.args.calls c.args.pick c.args.input.now image c.run_store-left.result.1 there c.tell.result (c.tell.ensures.ok name there.state there.opens)
 
@@ -34,8 +34,8 @@ returns-clause-err c name d store =
       none = λ zero. c.after_crash.ensures.none zero ∙ ap synced_of c.into_inner.ensures;
       all = λ one. c.after_crash.ensures.all one ∙ ap read_of c.into_inner.ensures;
     } in
-    let ran : RunsFrom fused name d c.args.user.now c.args.password.now f (Some c.args.input.now) (Some []) left c.run_store-left.result.1 (Some c.run_store-left.new.writer.items) =
-    subst (λ (w : List ℕ). RunsFrom fused name d c.args.user.now c.args.password.now f (Some c.args.input.now) (Some w) left c.run_store-left.result.1 (Some c.run_store-left.new.writer.items)) c.new-written.ensures.items (c.run_store-left.ensures name d fused_store.store) in
+    let ran : RunsFrom fused fused_syncs name d c.args.user.now c.args.password.now f (Some c.args.input.now) (Some []) left c.run_store-left.result.1 (Some c.run_store-left.new.writer.items) =
+    subst (λ (w : List ℕ). RunsFrom fused fused_syncs name d c.args.user.now c.args.password.now f (Some c.args.input.now) (Some w) left c.run_store-left.result.1 (Some c.run_store-left.new.writer.items)) c.new-written.ensures.items (c.run_store-left.ensures name d fused_store.store) in
     let there = left_state name d c.args.user.now c.args.password.now c.args.input.now c.args.disk c.args.calls c.args.pick f left c.new-fuse.ensures.inner c.new-fuse.ensures.left fused_store c.run_store-left.new.writer.items image picked c.run_store-left.result.1 ran in
     refused_so name c.tell.result (c.tell.ensures.err name there.state there.opens)
 

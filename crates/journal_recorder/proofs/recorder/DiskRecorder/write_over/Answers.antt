@@ -1,13 +1,11 @@
 -- What was written is the store's, whose active half was read.
 use Rattle.std.proofs.Common.{◌≡◌, ◌≤◌, ◌+◌, ℕ, length, true, inl, inr, refl}
 use Rattle.half_store.specs.Active.{Store}
-use Rattle.half_store.specs.Layout.{half_len}
 use Rattle.half_store.specs.declared.header.Layout.TheVariants.{Two}
 use Rattle.drda_disk.specs.Disk.{LeavesOnly}
 use Rattle.unit_journal.specs.Record.{entries_of}
 use Rattle.half_store.specs.Opened.{store_of}
 use Rattle.checkpoints.specs.Moment.{GoesOn, Moment}
-use Rattle.checkpoints.specs.Room.{need_of}
 use Rattle.paged_tables.specs.PagedTables.{store_in}
 use Rattle.journal_recorder.specs.Checkpointing.{IsSwitched, LacksRoom}
 use Rattle.journal_recorder.specs.Recording.{disk_of}
@@ -37,7 +35,6 @@ returns-in-Ok-clause-told g c =
       held = told.held;
       layout = refl;
       inside = told.inside;
-      fits = of (λ (s : Store). need_of rows es hold ≤ half_len (length base)) (λ rests apart. told.full apart);
       faults = told.cause;
       going = c.requires.going;
     }

@@ -12,14 +12,14 @@ use Rattle.unit_journal.proofs.journal.Journal.open.Goals as goal
 
 pub returns-in_err-record-clause-reads : goal.returns-in_err-record-clause-reads
 returns-in_err-record-clause-reads g c honest =
-    let same : c.from_residual-in_err-record.result ≡ Err c.in_err-record.field-0.0 = search rules in
+    let same : c.from_residual.result ≡ Err c.in_err-record.field-0.0 = search rules in
     let P : Result (Journal × Vec Record Global) OpenError → Type 0 = λ r. ReadsRegion c.args.region g.D.Disk.is_modelled (g.D.Disk.life c.args.disk.now).seen (g.D.Disk.life c.read_record.new.disk) r in
     subst P (sym same) (next_error c.args.region g.D.Disk.is_modelled (g.D.Disk.life c.args.disk.now).seen (g.D.Disk.life c.loop-records.disk).seen (g.D.Disk.life c.read_record.new.disk) c.loop-records.at c.loop-records.records.items c.in_err-record.field-0.0
     c.loop-records.invariant.stays.same (c.loop-records.invariant.so_far honest) c.loop-records.invariant.high c.requires.inside (c.in_err-record.ensures.next honest))
 
 pub returns-in_err-record-clause-whole : goal.returns-in_err-record-clause-whole
 returns-in_err-record-clause-whole g c es honest s =
-    whole_by c.args.region g.D.Disk.is_modelled (g.D.Disk.life c.args.disk.now).seen (g.D.Disk.life c.read_record.new.disk) es c.from_residual-in_err-record.result s (returns-in_err-record-clause-reads g c honest)
+    whole_by c.args.region g.D.Disk.is_modelled (g.D.Disk.life c.args.disk.now).seen (g.D.Disk.life c.read_record.new.disk) es c.from_residual.result s (returns-in_err-record-clause-reads g c honest)
 
 pub loop-records-preserved : goal.loop-records-preserved
 loop-records-preserved g c = record {
