@@ -3,11 +3,12 @@ use Rattle.std.proofs.Common.{◌≡◌, ◌≤◌, ◌∙◌, sym, subst, arith
 use Rattle.std.specs.Prelude.{unwrap_or}
 use Rattle.std.specs.List.{AllByRecursion}
 use Rattle.drda_disk.specs.Disk.{Life}
+use Rattle.recovery.specs.Journaled.{OnDisk}
 use Rattle.session_commands.specs.Settings.{Settings}
 use Rattle.command_line.specs.declared.job.ServeOptions.{ServeOptions}
 use Rattle.drda_server.specs.Listening.{IsLetIn, LetsNext, ServesStreams}
 use Rattle.drda_server.specs.Network.{NetworkCalls}
-use Rattle.drda_server.specs.Threads.{Came, Given, IsAttended, ServesAll}
+use Rattle.drda_server.specs.Threads.{Came, Given, IsAttended, IsTurnedAway, ServesAll}
 use Rattle.core_history.specs.declared.pass.Pass.{Pass}
 
 few_of : (o : Option ℕ) (len left most : ℕ) → left ≡ unwrap_or o most → len ≤ left → IfSome o (λ count. len ≤ count)
@@ -34,14 +35,14 @@ module _ {N L S W : Type 0} (calls : NetworkCalls N L S W) {T : Type 0} (listene
       let rest : length more ≤ left next = few_came Away Is more next last came in
       omega (arith, rest, lets.next.0)
 
-  module _ {D : Type 0} (modelled : Bool) (life : D → Life) (remaining : S → Option (List ℕ)) (contents : W → Option (List ℕ)) (settings : Settings) (options : ServeOptions) where
+  module _ {D : Type 0} (modelled : Bool) (life : D → Life) (origin : OnDisk D → Type 0) (remaining : S → Option (List ℕ)) (contents : W → Option (List ℕ)) (settings : Settings) (options : ServeOptions) where
     pub served_streams : (first : T) (l : L) (count most : ℕ) → listener first ≡ l → idle first ≡ options.idle → left first ≡ count → count ≡ unwrap_or options.count most
-        → ServesAll (Unit {0}) (IsAttended modelled life remaining contents settings) Lets first → ServesStreams calls modelled life remaining contents settings options l
+        → ServesAll (IsTurnedAway modelled life origin) (IsAttended modelled life origin remaining contents settings) Lets first → ServesStreams calls modelled life origin remaining contents settings options l
     served_streams first l count most its_listener its_idle its_count is all = record {
       streams = all.streams;
       let_in =
           subst (λ (z : L). AllByRecursion (IsLetIn calls z options.idle) all.streams) its_listener
-          (subst (λ (i : Option ℕ). AllByRecursion (IsLetIn calls (listener first) i) all.streams) its_idle (all_let_in (Unit {0}) (IsAttended modelled life remaining contents settings) all.streams first all.last all.came));
+          (subst (λ (i : Option ℕ). AllByRecursion (IsLetIn calls (listener first) i) all.streams) its_idle (all_let_in (IsTurnedAway modelled life origin) (IsAttended modelled life origin remaining contents settings) all.streams first all.last all.came));
       each = all.each;
-      few = few_of options.count (length all.streams) (left first) most (its_count ∙ is) (few_came (Unit {0}) (IsAttended modelled life remaining contents settings) all.streams first all.last all.came);
+      few = few_of options.count (length all.streams) (left first) most (its_count ∙ is) (few_came (IsTurnedAway modelled life origin) (IsAttended modelled life origin remaining contents settings) all.streams first all.last all.came);
     }

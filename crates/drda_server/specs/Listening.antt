@@ -5,10 +5,11 @@ use Rattle.std.specs.Io.KnownBytes.{Appends}
 use Rattle.std.specs.declared.net.socket_addr.SocketAddr.{SocketAddr}
 use Rattle.std.specs.List.{AllByRecursion}
 use Rattle.drda_disk.specs.Disk.{Life}
+use Rattle.recovery.specs.Journaled.{OnDisk}
 use Rattle.session_commands.specs.Settings.{Settings}
 use Rattle.command_line.specs.declared.job.ServeOptions.{ServeOptions}
 use Rattle.drda_server.specs.Network.{IsLocal, LetsIn, NetworkCalls}
-use Rattle.drda_server.specs.Threads.{Became, Given, IsAttended}
+use Rattle.drda_server.specs.Threads.{Became, Given, IsAttended, IsTurnedAway}
 use Rattle.store_files.specs.Stores.{IsOfDevice}
 use Rattle.store_files.specs.declared.fault.Fault.{Fault}
 use Rattle.store_files.specs.declared.fault.Fault.TheVariants.{Device}
@@ -34,13 +35,13 @@ module _ {N L S W : Type 0} (calls : NetworkCalls N L S W) where
   abbrev pub IsLetIn : L → Option ℕ → Given S W → Type 0
   IsLetIn listener idle given = (net : N) × (net' : N) × LetsIn calls net listener idle given.reader given.writer net'
 
-  module _ {D : Type 0} (modelled : Bool) (life : D → Life) (remaining : S → Option (List ℕ)) (contents : W → Option (List ℕ)) (settings : Settings) (options : ServeOptions) where
+  module _ {D : Type 0} (modelled : Bool) (life : D → Life) (origin : OnDisk D → Type 0) (remaining : S → Option (List ℕ)) (contents : W → Option (List ℕ)) (settings : Settings) (options : ServeOptions) where
     -- Each stream that the listener let in had the limit of the options, and was attended by a front of these settings, or turned
-    -- away; they were no more than the options say.
+    -- away, at the book of this origin; they were no more than the options say.
     pub record ServesStreams (listener : L) : Type 0 where
       pub streams : List (Given S W)
       pub let_in : AllByRecursion (IsLetIn listener options.idle) streams
-      pub each : AllByRecursion (Became (Unit {0}) (IsAttended modelled life remaining contents settings)) streams
+      pub each : AllByRecursion (Became (IsTurnedAway modelled life origin) (IsAttended modelled life origin remaining contents settings)) streams
       pub few : IfSome options.count (λ count. length streams ≤ count)
 
     -- ---- a listener
