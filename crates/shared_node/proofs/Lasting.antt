@@ -1,5 +1,5 @@
 -- What a desk answers lasts.
-use Rattle.std.proofs.Common.{◌≡◌, ◌⊎◌, ◌+◌, ◌∙◌, ℕ, zero, suc, Bool, true, false, cond, List, [], ◌∷◌, ◌++◌, Some, length, slice_get, refl, sym, ap, subst, inl, inr, arith, append_assoc}
+use Rattle.std.proofs.Common.{◌≡◌, ◌⊎◌, ◌+◌, ◌∙◌, ℕ, zero, suc, Bool, true, false, cond, List, [], ◌∷◌, ◌++◌, Some, length, slice_get, refl, sym, ap, subst, inl, inr, arith, append-nil, append_assoc, length-append}
 use Rattle.std.specs.Prelude.{IsTrue, if◌then◌else◌, ◌==◌}
 use Rattle.std.proofs.lemmas.List.Elements.{filter-append}
 use Rattle.drda_disk.specs.Disk.{Life}
@@ -18,7 +18,7 @@ use Rattle.core_history.specs.Gathered.{Collects}
 use Rattle.core_history.specs.Lasting.{KeptBooksLast, Lasts}
 use Rattle.core_history.specs.LeftAnswers.{calls_by}
 use Rattle.core_history.specs.Passes.{Lists, count_of}
-use Rattle.core_history.specs.Wishes.{listed_wish}
+use Rattle.core_history.specs.Wishes.{answer_wished, listed_wish}
 use Rattle.core_history.proofs.Counting.{get_set}
 use Rattle.core_history.proofs.Leaving.{by_its, get_behind, get_in_front, length_by}
 use Rattle.shared_node.specs.declared.turn.Turn.{Turn}
@@ -37,8 +37,8 @@ module _ {D : Type 0} where
   retires pass true found left r = no_more found left (ap (λ (t : Told D). t.calls) (r.done refl)) (ap (λ (t : Told D). t.opening) (r.done refl))
   retires pass false found left r = no_more found left (ap (λ (t : Told D). t.calls) (r.stranger refl)) (ap (λ (t : Told D). t.opening) (r.stranger refl))
 
-  later_on : (first then last : Told D) → IsLater first then → IsLater then last → IsLater first last
-  later_on first then last a b = record {
+  later_on : (first mid last : Told D) → IsLater first mid → IsLater mid last → IsLater first last
+  later_on first mid last a b = record {
     more = a.more ++ b.more;
     calls = b.calls ∙ (ap (λ (ls : List AnsweredCall). ls ++ b.more) a.calls ∙ append_assoc first.calls a.more b.more);
     opening = b.opening ∙ a.opening;
@@ -77,7 +77,7 @@ taken_there (x ∷ xs) s are conversation n l is none = elim (there_or_behind (x
 module _ {D : Type 0} (modelled : Bool) (life : D → Life) where
   still : (left now : Told D) (conversation number : ℕ) (call : Call) (mark : Mark) (answer : Answer) → IsListedAs left conversation number call mark answer → IsLater left now → IsListedAs now conversation number call mark answer
   still left now conversation number call mark answer is later =
-      let l = record { conversation = conversation; call = call; mark = mark; answer = answer } in
+      let l : AnsweredCall = record { conversation = conversation; call = call; mark = mark; answer = answer } in
       subst (λ (ls : List AnsweredCall). slice_get (calls_by conversation ls) number ≡ Some l) (sym later.calls)
       (subst (λ (ls : List AnsweredCall). slice_get ls number ≡ Some l) (sym (filter-append (λ (x : AnsweredCall). x.conversation == conversation) left.calls later.more))
       (get_in_front (calls_by conversation left.calls) (calls_by conversation later.more) number l is))
@@ -96,7 +96,7 @@ module _ {D : Type 0} (modelled : Bool) (life : D → Life) where
   its_last : (between behind left : Told D) (pass after : Pass) (call : Call) (answer : Answer) (l : Lists modelled life between pass call answer behind after) → left.calls ≡ behind.calls → left.places ≡ behind.places
       → IsKept modelled life left → IsListedAs left pass.conversation pass.count call l.mark answer
   its_last between behind left pass after call answer l same places kept =
-      let one = record { conversation = pass.conversation; call = call; mark = l.mark; answer = answer } in
+      let one : AnsweredCall = record { conversation = pass.conversation; call = call; mark = l.mark; answer = answer } in
       let calls : left.calls ≡ between.calls ++ one ∷ [] = same ∙ l.calls in
       let here : slice_get left.places pass.place ≡ Some (Some (count_of after)) =
       ap (λ ps. slice_get ps pass.place) (places ∙ l.places) ∙ get_set between.places pass.place (Some (count_of pass)) (Some (count_of after)) l.knows in
@@ -118,7 +118,7 @@ module _ {D : Type 0} (modelled : Bool) (life : D → Life) where
       let calls : left.calls ≡ between.calls = same ∙ ap (λ (t : Told D). t.calls) its.book in
       let was : slice_get (calls_by pass.conversation left.calls) pass.count ≡ Some (listed_wish pass.conversation c.0 its.has_failed) = ap (λ ls. slice_get (calls_by pass.conversation ls) pass.count) calls ∙ its.listed in
       subst (λ (x : Answer). IsListedAs left pass.conversation pass.count call mark x) (sym its.answer_is)
-      (subst (λ (k : Call). slice_get (calls_by pass.conversation left.calls) pass.count ≡ Some (record { conversation = pass.conversation; call = k; mark = mark; answer = _ })) (sym c.1) was)
+      (subst (λ (k : Call). slice_get (calls_by pass.conversation left.calls) pass.count ≡ Some (record { conversation = pass.conversation; call = k; mark = mark; answer = answer_wished c.0 its.has_failed })) (sym c.1) was)
 
   lasts : KeptBooksLast modelled life → (found left : Told D) (pass after : Pass) (call : Call) (acted : Acted) → IsKept modelled life left → TakesTurn modelled life pass call acted after found left → AnswerLasts modelled life pass call (answer_told acted) after found left
   lasts last found left pass after call (Answered a) kept t =

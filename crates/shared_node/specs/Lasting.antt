@@ -31,7 +31,7 @@ pub record TurnsGoOn {D : Type 0} (modelled : Bool) (life : D → Life) : Type 0
   pub asked : (pass after : Pass) (call : Call) (acted : Acted) (found left : Told D) → TakesTurn modelled life pass call acted after found left → IsLater found left
   pub retired : (pass : Pass) (is_taken : Bool) (found left : Told D) → Retires pass is_taken found left → IsLater found left
   pub rested : (turn : Turn) (found left : Told D) → Considers turn found left → IsLater found left
-  pub both : (first then last : Told D) → IsLater first then → IsLater then last → IsLater first last
+  pub both : (first mid last : Told D) → IsLater first mid → IsLater mid last → IsLater first last
 
 -- ---- an answer
 
