@@ -3,4 +3,4 @@ pub mod Holding
 pub mod Sending
 pub mod Turning
 pub mod Usable
-pub mod Lasting
+pub mod Remaining

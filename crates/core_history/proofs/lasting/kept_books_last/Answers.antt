@@ -1,4 +1,4 @@
-use Rattle.core_history.proofs.Lasting.{kept_books_last}
+use Rattle.core_history.proofs.Remaining.{kept_books_last}
 use Rattle.core_history.proofs.lasting.kept_books_last.Goals as goal
 
 pub returns : goal.returns

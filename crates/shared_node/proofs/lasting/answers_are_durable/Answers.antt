@@ -1,4 +1,4 @@
-use Rattle.shared_node.proofs.Lasting.{answers_are_durable}
+use Rattle.shared_node.proofs.Remaining.{answers_are_durable}
 use Rattle.shared_node.proofs.lasting.answers_are_durable.Goals as goal
 
 pub returns : goal.returns

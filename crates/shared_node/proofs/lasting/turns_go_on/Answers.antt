@@ -1,4 +1,4 @@
-use Rattle.shared_node.proofs.Lasting.{turns_go_on}
+use Rattle.shared_node.proofs.Remaining.{turns_go_on}
 use Rattle.shared_node.proofs.lasting.turns_go_on.Goals as goal
 
 pub returns : goal.returns
