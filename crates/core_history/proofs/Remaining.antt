@@ -2,9 +2,9 @@
 use Rattle.std.proofs.Common.{◌≡◌, ◌⊎◌, refl, subst, inl, inr, ℕ, Bool, true, false, List}
 use Rattle.drda_disk.specs.Disk.{Life, Now}
 use Rattle.unit_records.specs.Records.{UnitRecord}
-use Rattle.recovery.specs.Journaled.{AnsweredStays, Made, OnDisk, shown_on}
-use Rattle.core_history.specs.Books.{IsKept, Told}
-use Rattle.core_history.specs.Lasting.{KeptBooksLast, Lasts, OpensToBook}
+use Rattle.recovery.specs.Journaled.{AnsweredStays, Made, shown_on}
+use Rattle.core_history.specs.Books.{Told}
+use Rattle.core_history.specs.Lasting.{KeptBooksLast, OpensToBook}
 
 which : (b : Bool) → (b ≡ true) ⊎ (b ≡ false)
 which true = inl refl
