@@ -4,3 +4,4 @@ pub mod Sending
 pub mod Turning
 pub mod Usable
 pub mod Remaining
+pub mod Locking

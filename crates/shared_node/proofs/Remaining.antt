@@ -33,7 +33,7 @@ module _ {D : Type 0} where
   no_more : (found left : Told D) → left.calls ≡ found.calls → left.opening ≡ found.opening → IsLater found left
   no_more found left same opening = record { more = []; calls = same ∙ sym (append-nil found.calls); opening = opening }
 
-  retires : (pass : Pass) (is_taken : Bool) (found left : Told D) → Retires pass is_taken found left → IsLater found left
+  pub retires : (pass : Pass) (is_taken : Bool) (found left : Told D) → Retires pass is_taken found left → IsLater found left
   retires pass true found left r = no_more found left (ap (λ (t : Told D). t.calls) (r.done refl)) (ap (λ (t : Told D). t.opening) (r.done refl))
   retires pass false found left r = no_more found left (ap (λ (t : Told D). t.calls) (r.stranger refl)) (ap (λ (t : Told D). t.opening) (r.stranger refl))
 

@@ -1,6 +1,7 @@
 //! What lies under the lock.
 
 use crate::origin::Origin;
+use crate::turn::{Begun, Turn};
 use crate::waiting::Waiting;
 use core_calls::CoreCall;
 use core_history::{Acted, Book, Pass, Wish, Wished};
@@ -9,6 +10,7 @@ use recovery::images::calls_go_on;
 use serializability::answers::answers_belong_to_calls;
 use std::marker::{Model, PhantomData};
 use std::sync::Wait;
+use std::time::{Clock, Instant};
 use unit_records::Phase;
 use xa_manager::Decision;
 
@@ -36,13 +38,14 @@ impl<D: Disk, B: Origin<D>> Model for Held<D, B> {
 }
 
 impl<D: Disk, B: Origin<D>> Held<D, B> {
-    ghost use Rattle.std.specs.Prelude.{◌≡◌, ◌<◌, ◌↔◌, [], IfSome, IsTrue, None, Some, false, true};
+    ghost use Rattle.std.specs.Prelude.{◌≡◌, ◌<◌, ◌↔◌, IfSome, IsTrue, None, Some, false, true};
     ghost use Rattle.core_calls.specs.Call.{call_of};
     ghost use Rattle.core_history.specs.Books.{IsKept};
-    ghost use Rattle.core_history.specs.Passes.{Admits, HasNoLeave, Knows, Rests, calls_in, retired};
+    ghost use Rattle.core_history.specs.Passes.{Admits, HasNoLeave, Knows, retired};
     ghost use Rattle.core_history.specs.Wishes.{call_wished};
     ghost use Rattle.recovery.specs.Journaled.{Journaled, shown_on};
     ghost use Rattle.shared_node.specs.Desks.{DeskActs};
+    ghost use Rattle.shared_node.specs.Locked.{Considers};
     ghost use Rattle.shared_node.specs.Standing.{Stands};
     ghost use Rattle.shared_node.specs.Turns.{MayFulfil, TakesTurn};
 
@@ -81,18 +84,19 @@ impl<D: Disk, B: Origin<D>> Held<D, B> {
         pass
     }
 
-    /// Writes a checkpoint where one is due.
-    pub(crate) fn consider_checkpoint(&mut self)
-        ensures rests { Rests self.old.core self.new.core }
-        ensures rest { self.new ≡ record self.old { core = self.new.core } }
+    /// Writes a checkpoint where one is due, and tells what its turn at the lock was like, which was waited for since this time.
+    pub(crate) fn consider_checkpoint<R: Clock>(&mut self, rt: &R, since: Option<Instant>) -> Turn
+        ensures considers { Considers result self.old self.new }
         ensures was_kept { IsKept D.is_modelled D.life self.old }
         ensures is_kept { IsKept D.is_modelled D.life self.new }
         ensures origin { B.is self.old.opening }
         ensures journaled { Journaled D.is_modelled (shown_on D.life self.old.core) (shown_on D.life self.new.core) }
     {
         self.book.is_kept();
+        let begun = Begun::new(rt, since, &self.book);
         self.book.consider_checkpoint();
         self.book.is_kept();
+        begun.end(rt, &self.book)
     }
 
     /// Takes a pass back, where the book counts as many calls as the pass.

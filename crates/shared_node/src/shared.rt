@@ -2,7 +2,7 @@
 
 use crate::held::Held;
 use crate::origin::Origin;
-use crate::turn::{Begun, Turn, time};
+use crate::turn::{Turn, time};
 use crate::waiting::Waiting;
 use core_history::{Book, PLACES, Pass};
 use drda_disk::Disk;
@@ -61,9 +61,7 @@ impl<D: Disk, B: Origin<D>> Shared<D, B> {
         let came = time(rt);
         let mut guard = self.held.lock(rt);
         let held = &mut *guard;
-        let begun = Begun::new(rt, came, &held.book);
-        held.consider_checkpoint();
-        begun.end(rt, &held.book)
+        held.consider_checkpoint(rt, came)
     }
 
     /// Takes a pass back, whose conversation was lost, and its place is free. False where the book does not count as
