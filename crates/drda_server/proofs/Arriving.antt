@@ -48,10 +48,14 @@ module _ {N L S W : Type 0} (calls : NetworkCalls N L S W) (listener : L) (idle 
         | inl same ↦ inl (omega (arith, so, same))
         | inr none ↦ inr (none, omega (arith, so), fails)
       ]
-      | inr halted ↦ inr (elim how [
-        | inl same ↦ same ∙ halted.0
-        | inr none ↦ none
-      ], halted.1, fails)
+      | inr halted ↦ inr (
+        elim how [
+          | inl same ↦ same ∙ halted.0
+          | inr none ↦ none
+        ],
+        halted.1,
+        fails,
+      )
     ];
     turns_are = inl fails;
   }
@@ -132,7 +136,7 @@ module _ {N L S W : Type 0} (calls : NetworkCalls N L S W) {T : Type 0} (listene
         let last = all.no_more in
         let closed : List S = so_far.closed ++ last.closed in
         let next : (left all.last ≡ length last.closed) ⊎ ((length last.closed ≤ left all.last) × FailsToLetIn calls (listener first)) =
-            subst (λ (l : L). (left all.last ≡ length last.closed) ⊎ ((length last.closed ≤ left all.last) × FailsToLetIn calls l)) same.0 last.next in
+        subst (λ (l : L). (left all.last ≡ length last.closed) ⊎ ((length last.closed ≤ left all.last) × FailsToLetIn calls l)) same.0 last.next in
         let came : length all.streams + length closed ≡ (length all.streams + length so_far.closed) + length last.closed = omega (arith, length-append so_far.closed last.closed) in
         record {
           streams = all.streams;

@@ -1,6 +1,7 @@
 -- Conversations over a network, side by side.
-use Rattle.std.proofs.Common.{◌≡◌, ◌⊎◌, ◌∙◌, sym, ap, subst, inl, inr, ℕ, Bool, List, Option, Result, Ok, Err}
+use Rattle.std.proofs.Common.{◌≡◌, ◌⊎◌, ◌∙◌, refl, sym, ap, subst, inl, inr, ℕ, Bool, List, Option, Result, Ok, Err}
 use Rattle.std.specs.Prelude.{IfErr}
+use Rattle.std.specs.Result.{result_and}
 use Rattle.std.specs.Io.KnownBytes.{Appends}
 use Rattle.drda_disk.specs.Disk.{Life}
 use Rattle.session_commands.specs.Settings.{Settings}

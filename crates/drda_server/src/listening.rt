@@ -197,6 +197,7 @@ fn end_of<D: Disk + Drop, B: Origin<D>>(alloc: Global, shared: Shared<D, B>) -> 
         Ok(book) => book,
         Err(book) => book,
     };
+    book.is_kept();
     if book.core().is_failed() {
         return Err(Fault::Device);
     }
