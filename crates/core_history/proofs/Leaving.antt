@@ -13,12 +13,12 @@ use Rattle.core_history.proofs.Counting.{get_other, get_replicate, same_or_apart
 -- ---- lists
 
 module _ {Y : Type 0} where
-  get_in_front : (xs ys : List Y) (i : ℕ) (y : Y) → slice_get xs i ≡ Some y → slice_get (xs ++ ys) i ≡ Some y
+  pub get_in_front : (xs ys : List Y) (i : ℕ) (y : Y) → slice_get xs i ≡ Some y → slice_get (xs ++ ys) i ≡ Some y
   get_in_front [] ys i y is = absurd (cc is)
   get_in_front (x ∷ xs) ys zero y is = is
   get_in_front (x ∷ xs) ys (suc i) y is = get_in_front xs ys i y is
 
-  get_behind : (xs ys : List Y) (y : Y) → slice_get (xs ++ y ∷ ys) (length xs) ≡ Some y
+  pub get_behind : (xs ys : List Y) (y : Y) → slice_get (xs ++ y ∷ ys) (length xs) ≡ Some y
   get_behind [] ys y = refl
   get_behind (x ∷ xs) ys y = get_behind xs ys y
 
@@ -33,11 +33,11 @@ one_more_of : (b : Bool) (l : AnsweredCall) (ls : List AnsweredCall) → length 
 one_more_of true l ls = omega arith
 one_more_of false l ls = omega arith
 
-length_by : (n : ℕ) (calls : List AnsweredCall) → length (calls_by n calls) ≡ calls_of n calls
+pub length_by : (n : ℕ) (calls : List AnsweredCall) → length (calls_by n calls) ≡ calls_of n calls
 length_by n [] = refl
 length_by n (l ∷ ls) = one_more_of (l.conversation == n) l (calls_by n ls) ∙ ap (λ k. (if l.conversation == n then 1 else 0) + k) (length_by n ls)
 
-by_its : (n : ℕ) (calls : List AnsweredCall) (l : AnsweredCall) → l.conversation ≡ n → calls_by n (calls ++ l ∷ []) ≡ calls_by n calls ++ l ∷ []
+pub by_its : (n : ℕ) (calls : List AnsweredCall) (l : AnsweredCall) → l.conversation ≡ n → calls_by n (calls ++ l ∷ []) ≡ calls_by n calls ++ l ∷ []
 by_its n calls l is = filter-append (λ (x : AnsweredCall). x.conversation == n) calls (l ∷ []) ∙ ap (λ b. calls_by n calls ++ cond b (l ∷ []) []) (eq-eqb l.conversation n is)
 
 -- ---- what is left

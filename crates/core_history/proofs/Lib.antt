@@ -7,3 +7,4 @@ pub mod Members
 pub mod Opening
 pub mod Sending
 pub mod Together
+pub mod Remaining

@@ -4,3 +4,4 @@ pub mod Books
 pub mod Fillings
 pub mod Passes
 pub mod Gathered
+pub mod Lasting

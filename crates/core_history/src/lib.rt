@@ -12,6 +12,7 @@ mod collecting;
 mod count;
 mod filling;
 mod gathering;
+pub mod lasting;
 mod left;
 mod listing;
 mod numbering;

@@ -15,13 +15,14 @@ use Rattle.std.proofs.net.socket_addr.SocketAddr.TheSendSync as address_sends
 use Rattle.drda_disk.specs.declared.disk.Disk.{Ghosts}
 use Rattle.session_commands.proofs.settings.Settings.TheSendSync as settings_sends
 use Rattle.shared_node.proofs.Sending.{shared_sync}
+use Rattle.shared_node.specs.declared.origin.Origin as origin
 use Rattle.drda_server.proofs.longest.Longest.TheSendSync as longest_sends
 use Rattle.drda_server.specs.contracts.attending.Hall as hall
 
-pub hall_sync : (l : NamedLft) (D R G L : RattleType) (d : Ghosts D.Denot) → IsSend D → IsSync R → IsSync G → IsSync L → IsSync (hall.the_row l D R G L d)
-hall_sync l D R G L d sends runtime gate log =
-    let shared = shared_sync D d sends in
-    declared_sync (hall.the_type l D R G L d) (
+pub hall_sync : (l : NamedLft) (D B R G L : RattleType) (d : Ghosts D.Denot) (o : origin.Ghosts B.Denot D.Denot) → IsSend D → IsSync R → IsSync G → IsSync L → IsSync (hall.the_row l D B R G L d o)
+hall_sync l D B R G L d o sends runtime gate log =
+    let shared = shared_sync D B d o sends in
+    declared_sync (hall.the_type l D B R G L d o) (
       search (sendable, runtime),
       (search (sendable, crosses) depth 20, (search (sendable, shared), (search (sendable, settings_sends.the_sync) depth 12, (search (sendable, gate), (search (sendable, log), (search (sendable, longest_sends.the_sync) depth 12, (search (sendable, longest_sends.the_sync) depth 12, tt))))))),
     )

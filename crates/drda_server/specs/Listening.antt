@@ -1,14 +1,15 @@
 -- Conversations over a network, side by side.
-use Rattle.std.specs.Prelude.{◌≡◌, ◌⊎◌, ◌<◌, ◌≤◌, ℕ, Bool, List, length, ◌∷◌, [], ◌++◌, codes, Option, Some, None, IfSome, IfOk, IfErr, Result, Err}
+use Rattle.std.specs.Prelude.{◌≡◌, ◌⊎◌, ◌≤◌, ◌+◌, ◌-◌, ◌^◌, unwrap_or, ℕ, Bool, List, length, ◌∷◌, [], ◌++◌, codes, Option, Some, None, IfOk, IfErr, Result, Err}
 use Rattle.std.specs.Fmt.{decimal}
 use Rattle.std.specs.Io.KnownBytes.{Appends}
 use Rattle.std.specs.declared.net.socket_addr.SocketAddr.{SocketAddr}
 use Rattle.std.specs.List.{AllByRecursion}
 use Rattle.drda_disk.specs.Disk.{Life}
+use Rattle.recovery.specs.Journaled.{OnDisk}
 use Rattle.session_commands.specs.Settings.{Settings}
 use Rattle.command_line.specs.declared.job.ServeOptions.{ServeOptions}
-use Rattle.drda_server.specs.Network.{IsLocal, LetsIn, NetworkCalls}
-use Rattle.drda_server.specs.Threads.{Became, Given, IsAttended}
+use Rattle.drda_server.specs.Network.{ClosesAtOnce, FailsToLetIn, IsLocal, LetsIn, NetworkCalls}
+use Rattle.drda_server.specs.Threads.{Became, Given, IsAttended, IsTurnedAway}
 use Rattle.store_files.specs.Stores.{IsOfDevice}
 use Rattle.store_files.specs.declared.fault.Fault.{Fault}
 use Rattle.store_files.specs.declared.fault.Fault.TheVariants.{Device}
@@ -17,31 +18,41 @@ use Rattle.store_files.specs.declared.fault.Fault.TheVariants.{Device}
 abbrev pub port_line : ℕ → List ℕ
 port_line port = codes "listening " ++ decimal port ++ 10 ∷ []
 
+-- how many streams are let in at most
+abbrev pub most : Option ℕ → ℕ
+most count = unwrap_or count (2 ^ 64 - 1)
+
 module _ {N L S W : Type 0} (calls : NetworkCalls N L S W) where
   -- ---- streams that are let in
 
-  -- a stream was let in, with its limit, and one less is left; or none is left
-  abbrev pub IsNext : L → Option ℕ → ℕ → Option (S × W) → ℕ → Type 0
-  IsNext listener idle left (Some both) left' = (left' < left) × (net : N) × (net' : N) × LetsIn calls net listener idle both.0 both.1 net'
-  IsNext listener idle left None left' = left' ≡ 0
+  -- so many streams were closed at once; then one was let in, with its limit. Or none is, since all have come that were asked for,
+  -- or letting one in has failed.
+  abbrev pub IsNext : L → Option ℕ → ℕ → ℕ → Option (S × W) → ℕ → Type 0
+  IsNext listener idle left closed (Some both) left' = (left ≡ closed + 1 + left') × (net : N) × (net' : N) × LetsIn calls net listener idle both.0 both.1 net'
+  IsNext listener idle left closed None left' = (left ≡ closed) ⊎ ((closed ≤ left) × FailsToLetIn calls listener)
 
   -- the same listener goes on to let streams in, with the same limit
   pub record LetsNext (listener : L) (idle : Option ℕ) (left : ℕ) (given : Option (S × W)) (listener' : L) (idle' : Option ℕ) (left' : ℕ) : Type 0 where
-    pub next : IsNext listener idle left given left'
+    pub closed : List S
+    pub closes : AllByRecursion (ClosesAtOnce calls listener idle) closed
+    pub next : IsNext listener idle left (length closed) given left'
     pub listener_stays : listener' ≡ listener
     pub idle_stays : idle' ≡ idle
 
   abbrev pub IsLetIn : L → Option ℕ → Given S W → Type 0
   IsLetIn listener idle given = (net : N) × (net' : N) × LetsIn calls net listener idle given.reader given.writer net'
 
-  module _ {D : Type 0} (modelled : Bool) (life : D → Life) (remaining : S → Option (List ℕ)) (contents : W → Option (List ℕ)) (settings : Settings) (options : ServeOptions) where
+  module _ {D : Type 0} (modelled : Bool) (life : D → Life) (origin : OnDisk D → Type 0) (remaining : S → Option (List ℕ)) (contents : W → Option (List ℕ)) (settings : Settings) (options : ServeOptions) where
     -- Each stream that the listener let in had the limit of the options, and was attended by a front of these settings, or turned
-    -- away; they were no more than the options say.
+    -- away, at the book of this origin. They were, with those that were closed at once, as many as the options say, and no more; or
+    -- fewer, where letting one in has failed.
     pub record ServesStreams (listener : L) : Type 0 where
       pub streams : List (Given S W)
       pub let_in : AllByRecursion (IsLetIn listener options.idle) streams
-      pub each : AllByRecursion (Became (Unit {0}) (IsAttended modelled life remaining contents settings)) streams
-      pub few : IfSome options.count (λ count. length streams ≤ count)
+      pub each : AllByRecursion (Became (IsTurnedAway modelled life origin) (IsAttended modelled life origin remaining contents settings)) streams
+      pub closed : List S
+      pub closes : AllByRecursion (ClosesAtOnce calls listener options.idle) closed
+      pub count : (length streams + length closed ≡ most options.count) ⊎ ((length streams + length closed ≤ most options.count) × FailsToLetIn calls listener)
 
     -- ---- a listener
 

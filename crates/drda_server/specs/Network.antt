@@ -1,5 +1,5 @@
 -- What calls of a network come to: the network before, what is given, if any, and the network after.
-use Rattle.std.specs.Prelude.{◌≡◌, ℕ, [], ◌∷◌, Option, Some, None}
+use Rattle.std.specs.Prelude.{◌≡◌, ◌⊎◌, ℕ, [], ◌∷◌, Option, Some, None}
 use Rattle.std.specs.Net.Addr.{ipv4_octets}
 use Rattle.std.specs.Net.Socket.{v4_ip, v4_port}
 use Rattle.std.specs.declared.net.socket_addr.SocketAddr.{SocketAddr}
@@ -33,6 +33,22 @@ module _ {N L S W : Type 0} (calls : NetworkCalls N L S W) where
   abbrev pub IsLimited : N → S → Option ℕ → N → Type 0
   IsLimited net stream None net' = net' ≡ net
   IsLimited net stream (Some seconds) net' = calls.limits net stream seconds (Some tt) net'
+
+  -- they could not be limited
+  abbrev pub IsNotLimited : N → S → Option ℕ → N → Type 0
+  IsNotLimited net stream None net' = ⊥
+  IsNotLimited net stream (Some seconds) net' = calls.limits net stream seconds None net'
+
+  -- letting a stream in has failed
+  abbrev pub FailsToLetIn : L → Type 0
+  FailsToLetIn listener = (net : N) × (net' : N) × calls.lets_in net listener None net'
+
+  -- a stream was let in that could not have its limit or its second handle: it is closed at once
+  pub record ClosesAtOnce (listener : L) (idle : Option ℕ) (stream : S) : Type 0 where
+    pub net : N
+    pub came : N
+    pub let_in : calls.lets_in net listener (Some stream) came
+    pub refused : ((limited : N) × IsNotLimited came stream idle limited) ⊎ ((asked : N) × (answered : N) × calls.answers asked stream None answered)
 
   -- a stream was let in, got its limit, was asked to hurry, and then got a second handle
   pub record LetsIn (net : N) (listener : L) (idle : Option ℕ) (stream : S) (writer : W) (net' : N) : Type 0 where

@@ -3,24 +3,29 @@ use Rattle.std.specs.Prelude.{◌≡◌, ℕ, Bool, List, [], ◌∷◌, Option,
 use Rattle.std.specs.List.{AllByRecursion}
 use Rattle.drda_disk.specs.Disk.{Life}
 use Rattle.session_commands.specs.Settings.{Settings}
+use Rattle.recovery.specs.Journaled.{OnDisk}
 use Rattle.core_history.specs.declared.pass.Pass.{Pass}
 use Rattle.shared_node.specs.Desks.{DeskAsks}
-use Rattle.shared_node.specs.Locked.{Retires, UnderLock}
+use Rattle.shared_node.specs.Locked.{GivesNone, Retires, UnderLock}
 use Rattle.shared_node.specs.Served.{IsLost, IsServed}
 use Rattle.drda_server.specs.declared.attended.Attended.{Attended}
 
 -- ---- one stream
 
-module _ {D : Type 0} (modelled : Bool) (life : D → Life) {I O : Type 0} (remaining : I → Option (List ℕ)) (contents : O → Option (List ℕ)) (settings : Settings) (pass : Pass) (reader : I) (writer : O) where
+module _ {D : Type 0} (modelled : Bool) (life : D → Life) (origin : OnDisk D → Type 0) {I O : Type 0} (remaining : I → Option (List ℕ)) (contents : O → Option (List ℕ)) (settings : Settings) (pass : Pass) (reader : I) (writer : O) where
   -- A stream was served from its first byte to its loss, by a front of these settings, at its own pass, of which nobody asked
   -- anything else; then the pass was given back. Or there was no memory for the conversation, and nothing was heard.
   pub record Attends (attended : Attended O) : Type 0 where
-    pub served : IfSome (remaining reader) (λ input. IsServed (DeskAsks modelled life) settings pass input (contents writer) attended.served (contents attended.writer.value) attended.pass.value)
-    pub lost : IsLost (DeskAsks modelled life) pass attended.served attended.pass.value
-    pub retired : UnderLock modelled life (Retires attended.pass.value attended.is_retired)
+    pub served : IfSome (remaining reader) (λ input. IsServed (DeskAsks modelled life origin) settings pass input (contents writer) attended.served (contents attended.writer.value) attended.pass.value)
+    pub lost : IsLost (DeskAsks modelled life origin) pass attended.served attended.pass.value
+    pub retired : UnderLock modelled life origin (Retires attended.pass.value attended.is_retired)
 
   abbrev pub IsAttended : Type 0
   IsAttended = (attended : Attended O) × Attends attended
+
+-- a stream was turned away: 64 conversations had leave then, or no number was left
+abbrev pub IsTurnedAway : {D : Type 0} → Bool → (D → Life) → (OnDisk D → Type 0) → Type 0
+IsTurnedAway modelled life origin = UnderLock modelled life origin GivesNone
 
 -- ---- all streams
 

@@ -12,7 +12,7 @@ use crate::telling::TellingGate;
 use crate::watching::Watched;
 use conversation::Settings;
 use drda_disk::Disk;
-use shared_node::{Desk, Gate, Pass, Shared};
+use shared_node::{Desk, Gate, Origin, Pass, Shared};
 use std::alloc::Global;
 use std::io::{Read, Write};
 use std::net::SocketAddr;
@@ -23,10 +23,10 @@ use stream_service::Served;
 
 /// What all threads share.
 #[derive(Clone, Copy)]
-pub(crate) struct Hall<'a, D: Disk, R: Wait, G: Gate, L: Log> {
+pub(crate) struct Hall<'a, D: Disk, B: Origin<D>, R: Wait, G: Gate, L: Log> {
     pub(crate) rt: &'a R,
     pub(crate) alloc: Global,
-    pub(crate) shared: &'a Shared<D>,
+    pub(crate) shared: &'a Shared<D, B>,
     pub(crate) settings: &'a Settings,
     pub(crate) gate: &'a G,
     pub(crate) log: &'a L,
@@ -36,14 +36,22 @@ pub(crate) struct Hall<'a, D: Disk, R: Wait, G: Gate, L: Log> {
 
 /// Attends to one conversation, whose stream these two are of. What it left unfinished is lost at its end, and its leave is
 /// given back.
-pub(crate) fn attend<D: Disk, R: Wait + Clock, G: Gate, L: Log, I: Read + Drop, O: Write + Drop>(
-    hall: &Hall<'_, D, R, G, L>,
+pub(crate) fn attend<
+    D: Disk,
+    B: Origin<D>,
+    R: Wait + Clock,
+    G: Gate,
+    L: Log,
+    I: Read + Drop,
+    O: Write + Drop,
+>(
+    hall: &Hall<'_, D, B, R, G, L>,
     pass: Pass,
     peer: Option<SocketAddr>,
     reader: I,
     writer: O,
 ) -> Attended<O>
-    ensures { Attends D.is_modelled D.life I.remaining O.contents hall.now.settings.now pass reader writer result }
+    ensures { Attends D.is_modelled D.life B.is I.remaining O.contents hall.now.settings.now pass reader writer result }
 {
     let conversation = pass.conversation();
     let gate = TellingGate {
@@ -77,14 +85,14 @@ pub(crate) fn attend<D: Disk, R: Wait + Clock, G: Gate, L: Log, I: Read + Drop, 
 }
 
 // Gives the pass of a conversation that was lost back.
-fn retire<D: Disk, R: Wait + Clock, G: Gate, L: Log, O>(
-    hall: &Hall<'_, D, R, G, L>,
+fn retire<D: Disk, B: Origin<D>, R: Wait + Clock, G: Gate, L: Log, O>(
+    hall: &Hall<'_, D, B, R, G, L>,
     served: Served,
     pass: Pass,
     writer: Snapshot<O>,
 ) -> Attended<O>
     ensures kept { (result.served ≡ served) × (result.pass.value ≡ pass) × (result.writer ≡ writer) }
-    ensures retired { UnderLock D.is_modelled D.life (Retires pass result.is_retired) }
+    ensures retired { UnderLock D.is_modelled D.life B.is (Retires pass result.is_retired) }
 {
     let shown = Snapshot::of(&pass);
     let is_retired = hall.shared.retire(hall.rt, pass);

@@ -1,7 +1,7 @@
 //! The streams that a listener lets in.
 
-ghost use Rattle.std.specs.Prelude.{IfOk, IfSome};
-ghost use Rattle.drda_server.specs.Network.{IsLimited, LetsIn};
+ghost use Rattle.std.specs.Prelude.{◌≡◌, IfErr, IfOk, IfSome, None, Ok};
+ghost use Rattle.drda_server.specs.Network.{ClosesAtOnce, FailsToLetIn, IsLimited, IsNotLimited, LetsIn};
 
 use crate::arrivals::Streams;
 use crate::network::Network;
@@ -87,11 +87,11 @@ impl<N: Network> Streams for LetIn<'_, N> {
 }
 
 impl<N: Network> LetIn<'_, N> {
-    ghost use Rattle.std.specs.Prelude.{◌≡◌, ◌≤◌};
+    ghost use Rattle.std.specs.Prelude.{◌≡◌, ◌⊎◌};
 
     // Letting a stream in has failed. Mostly that passes, as where the system is short of something for a while.
     fn bear_failure(&mut self)
-        ensures left { self.new.left ≤ self.old.left }
+        ensures left { (self.new.left ≡ self.old.left) ⊎ (self.new.left ≡ 0) }
         ensures listener { self.new.listener ≡ self.old.listener }
         ensures idle { self.new.idle ≡ self.old.idle }
     {
@@ -121,7 +121,9 @@ fn let_in<N: Network>(
     listener: &N::Listener,
     idle: Option<u32>,
 ) -> io::Result<Option<(N::Stream, N::Writer)>>
-    ensures { IfOk result (λ given. IfSome given (λ both. LetsIn N.calls net.old listener.now idle both.0 both.1 net.new)) }
+    ensures given { IfOk result (λ given. IfSome given (λ both. LetsIn N.calls net.old listener.now idle both.0 both.1 net.new)) }
+    ensures closed { result ≡ Ok None → (stream : _) × ClosesAtOnce N.calls listener.now idle stream }
+    ensures failed { IfErr result (λ _. FailsToLetIn N.calls listener.now) }
 {
     let stream = net.accept(listener)?;
     if limit(net, &stream, idle).is_err() {
@@ -136,7 +138,8 @@ fn let_in<N: Network>(
 
 // Limits the reads of a stream, where seconds are given.
 fn limit<N: Network>(net: &mut N, stream: &N::Stream, idle: Option<u32>) -> io::Result<()>
-    ensures { IfOk result (λ _. IsLimited N.calls net.old stream.now idle net.new) }
+    ensures limited { IfOk result (λ _. IsLimited N.calls net.old stream.now idle net.new) }
+    ensures refused { IfErr result (λ _. IsNotLimited N.calls net.old stream.now idle net.new) }
 {
     match idle {
         Some(seconds) => net.limit(stream, seconds),

@@ -4,7 +4,7 @@ ghost use Rattle.std.specs.Prelude.{◌≡◌, ◌⊎◌, Err, IfErr, IfOk, ℕ}
 ghost use Rattle.std.specs.Io.KnownBytes.{Appends};
 ghost use Rattle.command_line.specs.Job.{plain_login};
 ghost use Rattle.drda_server.specs.Listening.{Listens, ServesStreams, port_line};
-ghost use Rattle.drda_server.specs.Serving.{ServesFile, seen, settings_of, surroundings};
+ghost use Rattle.drda_server.specs.Serving.{EndsSo, ServesCore, ServesFile, seen, settings_of, surroundings};
 ghost use Rattle.store_files.specs.Stores.{IsOfDevice, RefusesName};
 
 use crate::letting_in::LetIn;
@@ -13,11 +13,13 @@ use crate::network::Network;
 use crate::threads::serve_streams;
 use command_line::{Login, ServeOptions};
 use conversation::{Settings, SettingsError};
+use core_history::lasting::kept_books_last;
 use drda_disk::Disk;
 use durable_core::DurableCore;
-use shared_node::{OpenGate, Shared};
+use shared_node::{OpenGate, Origin, Shared};
 use std::alloc::Global;
 use std::io::Write;
+use std::marker::Brand;
 use std::net::{Ipv4Addr, SocketAddr, SocketAddrV4};
 use std::sync::Wait;
 use std::thread::Threads;
@@ -54,12 +56,43 @@ where
 {
     let core = open_file(alloc, files, path)?;
     let settings = settings_for(alloc, &core, login)?;
-    let shared = match Shared::new(alloc, core) {
+    kept_books_last::<F::Disk>();
+    serve_core::<F::Disk, Brand, R, N, L, W>(
+        rt, alloc, core, &settings, net, log, port, options, out,
+    )
+}
+
+// Serves conversations over the store of a core, of which no more was asked than that it was opened.
+fn serve_core<D, B, R, N, L, W>(
+    rt: &R,
+    alloc: Global,
+    core: DurableCore<D>,
+    settings: &Settings,
+    net: &mut N,
+    log: &L,
+    port: u16,
+    options: ServeOptions,
+    out: &mut W,
+) -> Result<(), Fault>
+where
+    D: Disk + Send + Drop,
+    B: Origin<D> + Send,
+    R: Threads + Wait + Clock + Sync,
+    N: Network,
+    L: Log + Sync,
+    W: Write,
+    N::Stream: Send,
+    N::Writer: Send,
+    requires { B.is core }
+    ensures { ServesCore D.is_modelled D.life N.calls N.Stream.remaining N.Writer.contents B.is settings.now options port net.old (W.contents out.old) result net.new (W.contents out.new) }
+{
+    let shared: Shared<D, B> = match Shared::new(alloc, core) {
         Ok(shared) => shared,
         Err(_) => return Err(Fault::NoMemory),
     };
-    listen(rt, alloc, &shared, &settings, net, log, port, options, out)?;
-    end_of(alloc, shared)
+    let listened = listen(rt, alloc, &shared, settings, net, log, port, options, out);
+    let ended = end_of(alloc, shared);
+    listened.and(ended)
 }
 
 // What a server of this login starts its conversations with, whose database has the name of its store. A name
@@ -80,10 +113,10 @@ fn settings_for<D: Disk>(
 }
 
 // Listens on a port of 127.0.0.1, says which on `out`, and serves the conversations of its streams.
-fn listen<R, D, N, L, W>(
+fn listen<R, D, B, N, L, W>(
     rt: &R,
     alloc: Global,
-    shared: &Shared<D>,
+    shared: &Shared<D, B>,
     settings: &Settings,
     net: &mut N,
     log: &L,
@@ -94,12 +127,13 @@ fn listen<R, D, N, L, W>(
 where
     R: Threads + Wait + Clock + Sync,
     D: Disk + Send + Drop,
+    B: Origin<D> + Send,
     N: Network,
     L: Log + Sync,
     W: Write,
     N::Stream: Send,
     N::Writer: Send,
-    ensures { Listens N.calls D.is_modelled D.life N.Stream.remaining N.Writer.contents settings.now options port net.old (W.contents out.old) result (W.contents out.new) }
+    ensures { Listens N.calls D.is_modelled D.life B.is N.Stream.remaining N.Writer.contents settings.now options port net.old (W.contents out.old) result (W.contents out.new) }
 {
     let address = SocketAddr::V4(SocketAddrV4::new(Ipv4Addr::new(127, 0, 0, 1), port));
     match net.bind(address) {
@@ -112,10 +146,10 @@ where
 }
 
 // Serves the streams that a listener lets in.
-fn serve_all<R, D, N, L>(
+fn serve_all<R, D, B, N, L>(
     rt: &R,
     alloc: Global,
-    shared: &Shared<D>,
+    shared: &Shared<D, B>,
     settings: &Settings,
     net: &mut N,
     log: &L,
@@ -125,12 +159,13 @@ fn serve_all<R, D, N, L>(
 where
     R: Threads + Wait + Clock + Sync,
     D: Disk + Send + Drop,
+    B: Origin<D> + Send,
     N: Network,
     L: Log + Sync,
     N::Stream: Send,
     N::Writer: Send,
     ensures cause { IfErr result IsOfDevice }
-    ensures served { (result ≡ Err Fault.NoMemory) ⊎ ServesStreams N.calls D.is_modelled D.life N.Stream.remaining N.Writer.contents settings.now options listener.now }
+    ensures served { (result ≡ Err Fault.NoMemory) ⊎ ServesStreams N.calls D.is_modelled D.life B.is N.Stream.remaining N.Writer.contents settings.now options listener.now }
 {
     let count = options.count.unwrap_or(u64::MAX);
     let mut streams = LetIn::new(net, listener, options.idle, count);
@@ -154,13 +189,15 @@ where
 }
 
 // How serving ends, once each thread has given its pass back: a device that has failed is told.
-fn end_of<D: Disk + Drop>(alloc: Global, shared: Shared<D>) -> Result<(), Fault>
-    ensures { IfErr result IsOfDevice }
+fn end_of<D: Disk + Drop, B: Origin<D>>(alloc: Global, shared: Shared<D, B>) -> Result<(), Fault>
+    ensures cause { IfErr result IsOfDevice }
+    ensures ends { EndsSo D.is_modelled D.life B.is result }
 {
     let book = match shared.close(Vec::new(alloc)) {
         Ok(book) => book,
         Err(book) => book,
     };
+    book.is_kept();
     if book.core().is_failed() {
         return Err(Fault::Device);
     }

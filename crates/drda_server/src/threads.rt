@@ -1,8 +1,8 @@
 //! A thread for each conversation.
 
 ghost use denote.Param.Send.{IsSend, IsSync};
-ghost use Rattle.std.specs.Prelude.{◌≡◌, ◌<◌, IfOk, IfSome};
-ghost use Rattle.drda_server.specs.Threads.{IsAttended, ServesAll};
+ghost use Rattle.std.specs.Prelude.{◌≡◌, ◌<◌, IfOk, IfSome, None};
+ghost use Rattle.drda_server.specs.Threads.{IsAttended, IsTurnedAway, ServesAll};
 
 use crate::arrivals::Streams;
 use crate::attendance::Attendance;
@@ -14,7 +14,7 @@ use crate::notice::Notice;
 use crate::telling::tell_turn;
 use conversation::Settings;
 use drda_disk::Disk;
-use shared_node::{Gate, Pass, Shared};
+use shared_node::{Gate, Origin, Pass, Shared};
 use std::alloc::{AllocError, Global};
 use std::net::SocketAddr;
 use std::sync::Wait;
@@ -22,11 +22,12 @@ use std::thread::{self, Threads};
 use std::time::Clock;
 
 // Leave for a conversation of a stream of this peer, where there is any.
-fn welcome<D: Disk, R: Wait, G: Gate, L: Log>(
-    hall: &Hall<'_, D, R, G, L>,
+fn welcome<D: Disk, B: Origin<D>, R: Wait, G: Gate, L: Log>(
+    hall: &Hall<'_, D, B, R, G, L>,
     peer: Option<SocketAddr>,
 ) -> Option<Pass>
-    ensures { IfSome result (λ pass. pass.place < 64) }
+    ensures some { IfSome result (λ pass. pass.place < 64) }
+    ensures none { result ≡ None → IsTurnedAway D.is_modelled D.life B.is }
 {
     let Some(pass) = hall.shared.admit(hall.rt) else {
         hall.log.tell(Notice::TurnedAway { peer });
@@ -43,10 +44,10 @@ fn welcome<D: Disk, R: Wait, G: Gate, L: Log>(
 /// when it returns. A stream that comes while 64 are served is closed at once; where no thread can be made, the
 /// stream is served here, before the next is waited for. `gate` says when a call may be made, `log` is told what
 /// becomes of the streams. Refused only before the first stream, where there is no memory for 64 threads' names.
-pub fn serve_streams<D, R, G, L, S>(
+pub fn serve_streams<D, B, R, G, L, S>(
     rt: &R,
     alloc: Global,
-    shared: &Shared<D>,
+    shared: &Shared<D, B>,
     settings: &Settings,
     gate: &G,
     log: &L,
@@ -54,13 +55,14 @@ pub fn serve_streams<D, R, G, L, S>(
 ) -> Result<(), AllocError>
 where
     D: Disk + Send + Drop,
+    B: Origin<D> + Send,
     R: Threads + Wait + Clock + Sync,
     G: Gate + Sync,
     L: Log + Sync,
     S: Streams,
     S::Reader: Send,
     S::Writer: Send,
-    ensures { IfOk result (λ _. ServesAll (Unit {0}) (IsAttended D.is_modelled D.life S.Reader.remaining S.Writer.contents settings.now) S.gives streams.old) }
+    ensures { IfOk result (λ _. ServesAll (IsTurnedAway D.is_modelled D.life B.is) (IsAttended D.is_modelled D.life B.is S.Reader.remaining S.Writer.contents settings.now) S.gives streams.old) }
 {
     let (waits, holds) = (Longest::new(), Longest::new());
     let hall = Hall {
@@ -77,27 +79,28 @@ where
 }
 
 // The same in a hall.
-fn serve_in<D, R, G, L, S>(
+fn serve_in<D, B, R, G, L, S>(
     rt: &R,
-    hall: &Hall<'_, D, R, G, L>,
+    hall: &Hall<'_, D, B, R, G, L>,
     streams: &mut S,
 ) -> Result<(), AllocError>
 where
     D: Disk + Send + Drop,
+    B: Origin<D> + Send,
     R: Threads + Wait + Clock + Sync,
     G: Gate + Sync,
     L: Log + Sync,
     S: Streams,
     S::Reader: Send,
     S::Writer: Send,
-    ensures { IfOk result (λ _. ServesAll (Unit {0}) (IsAttended D.is_modelled D.life S.Reader.remaining S.Writer.contents hall.now.settings.now) S.gives streams.old) }
+    ensures { IfOk result (λ _. ServesAll (IsTurnedAway D.is_modelled D.life B.is) (IsAttended D.is_modelled D.life B.is S.Reader.remaining S.Writer.contents hall.now.settings.now) S.gives streams.old) }
 {
     thread::scope(
         thread::scope_env(),
         rt,
         move |scope| -> Result<(), AllocError>
             requires { IsSync R.row × IsSync G.row × IsSync L.row × IsSend D.row × IsSend S.Reader.row × IsSend S.Writer.row }
-            ensures { IfOk result (λ _. ServesAll (Unit {0}) (IsAttended D.is_modelled D.life S.Reader.remaining S.Writer.contents hall.entry.now.settings.now) S.gives streams.entry.now) }
+            ensures { IfOk result (λ _. ServesAll (IsTurnedAway D.is_modelled D.life B.is) (IsAttended D.is_modelled D.life B.is S.Reader.remaining S.Writer.contents hall.entry.now.settings.now) S.gives streams.entry.now) }
         {
             let mut threads = no_threads(hall.alloc)?;
             tell_turn(hall.log, &hall.shared.consider_checkpoint(rt));
@@ -112,7 +115,7 @@ where
                 let place = pass.place();
                 // Whoever had this place has given its leave back, so its thread is at its end.
                 join_at(rt, &mut threads, place);
-                let attendance: Attendance<D, S::Reader, S::Writer> = Attendance::new(
+                let attendance: Attendance<D, B, S::Reader, S::Writer> = Attendance::new(
                     hall.settings,
                     &pass,
                     &reader,

@@ -182,6 +182,14 @@ module _ {D : Type 0} (modelled : Bool) (life : D → Life) where
         collected_behind found between behind pass after wished call a kept (subst (λ (t : Told D). MayFulfil life t between) before.book waited) is
         (subst (λ (p : Pass). Collects between p wished (answer_of a) behind after) before.same c)
 
+    -- the same, where the book between is seen by another name
+    pub asked_as_seen : (found first between seen same behind : Told D) (pass early too after : Pass) (wished : Wished) (call : Call) (acted : Acted) → between ≡ seen → IsKept modelled life found → IsKept modelled life between
+        → CollectsNothing found pass wished first early → MayFulfil life first seen → (Stands first early wished → Stands seen early wished) → CollectsNothing between early wished same too
+        → Acts modelled life same too call acted behind after → TakesTurn modelled life pass call acted after found behind
+    asked_as_seen found first between seen same behind pass early too after wished call acted view was kept before waited stands none acts =
+        asked_at_last found first between same behind pass early too after wished call acted was kept before (subst (λ (t : Told D). MayFulfil life first t) (sym view) waited)
+        (subst (λ (t : Told D). Stands first early wished → Stands t early wished) (sym view) stands) none acts
+
   -- ---- a checkpoint behind it
 
   cause_on : (found mid left : Told D) (pass : Pass) (acted : Acted) → (mid.core.is_failed ≡ true → left.core.is_failed ≡ true) → HasCause found pass acted mid → HasCause found pass acted left

@@ -121,14 +121,16 @@ module _ {D : Type 0} (modelled : Bool) (life : D → Life) (belong : AnswersBel
   in_vain found left pass after k (Answered a) unusable t = inr (t.cause (own_says t.between t.behind pass after k a unusable t.own))
   in_vain found left pass after k StrangerPass unusable t = inl t.cause
 
-pub only_failed_cores_close : {D : Type 0} (modelled : Bool) (life : D → Life) → AnswersBelong → OnlyFailedCoresClose modelled life
-only_failed_cores_close modelled life belong settings s next command bytes does closed =
-    let v = only_unusable_answers (DeskAsks modelled life) settings s next command bytes does closed in
+pub only_failed_cores_close : {D : Type 0} (modelled : Bool) (life : D → Life) (origin : OnDisk D → Type 0) → AnswersBelong → OnlyFailedCoresClose modelled life origin
+only_failed_cores_close modelled life origin belong settings s next command bytes does closed =
+    let v = only_unusable_answers (DeskAsks modelled life origin) settings s next command bytes does closed in
     let asked = v.asked in
     let lock = asked.turn in
     record {
       found = lock.found;
       left = lock.left;
+      is_of = lock.is_of;
+      opening = lock.opening;
       was_kept = lock.was_kept;
       is_kept = lock.is_kept;
       journaled = lock.journaled;

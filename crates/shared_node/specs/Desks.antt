@@ -2,6 +2,7 @@
 use Rattle.std.specs.Prelude.{◌≡◌, ◌⊎◌, ◌+◌, Bool, [], ◌∷◌, ◌++◌}
 use Rattle.drda_disk.specs.Disk.{Life}
 use Rattle.core_calls.specs.Call.{Call}
+use Rattle.recovery.specs.Journaled.{OnDisk}
 use Rattle.core_calls.specs.Answer.{Answer, answer_of, closed, no_memory}
 use Rattle.core_model.specs.Step.{Mark}
 use Rattle.core_history.specs.declared.acted.Acted.{Acted}
@@ -38,8 +39,8 @@ answer_told (Answered a) = answer_of a
 answer_told StrangerPass = closed
 
 -- the answer is that of a turn at the lock, in which the call was made on the book that was found; and the pass shows it
-pub record DeskAsks {D : Type 0} (modelled : Bool) (life : D → Life) (old : Pass) (call : Call) (answer : Answer) (new : Pass) : Type 0 where
+pub record DeskAsks {D : Type 0} (modelled : Bool) (life : D → Life) (origin : OnDisk D → Type 0) (old : Pass) (call : Call) (answer : Answer) (new : Pass) : Type 0 where
   pub shows : DeskShows old call answer new
   pub acted : Acted
   pub answer_is : answer ≡ answer_told acted
-  pub turn : UnderLock modelled life (TakesTurn modelled life old call acted new)
+  pub turn : UnderLock modelled life origin (TakesTurn modelled life old call acted new)

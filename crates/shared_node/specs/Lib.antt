@@ -4,3 +4,4 @@ pub mod Turns
 pub mod Desks
 pub mod Served
 pub mod Closing
+pub mod Lasting

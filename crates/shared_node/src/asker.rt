@@ -1,6 +1,7 @@
 //! Who asks the book for one conversation.
 
 use crate::gate::Gate;
+use crate::origin::Origin;
 use crate::shared::Shared;
 use crate::turn::{Begun, time};
 use command_kit::Ask;
@@ -14,9 +15,9 @@ use std::time::Clock;
 /// Who asks the book for one conversation, under the lock, call by call: its turn comes outside of the lock, the call and
 /// what it lists are one step inside of it. To clauses it is its pass.
 #[derive(Drop)]
-pub(crate) struct Asker<'a, D: Disk, R: Wait + Clock, G: Gate> {
+pub(crate) struct Asker<'a, D: Disk, B: Origin<D>, R: Wait + Clock, G: Gate> {
     rt: &'a R,
-    shared: &'a Shared<D>,
+    shared: &'a Shared<D, B>,
     gate: &'a G,
     pass: Pass,
     asked: u64,
@@ -25,7 +26,7 @@ pub(crate) struct Asker<'a, D: Disk, R: Wait + Clock, G: Gate> {
     held: u64,
 }
 
-impl<'a, D: Disk, R: Wait + Clock, G: Gate> Model for Asker<'a, D, R, G> {
+impl<'a, D: Disk, B: Origin<D>, R: Wait + Clock, G: Gate> Model for Asker<'a, D, B, R, G> {
     ghost use Rattle.std.specs.Coded.{codes};
     ghost use Rattle.core_history.specs.declared.pass.Pass.{Pass};
     ghost use Rattle.sql_copies.specs.Stored.{coded_predicate};
@@ -37,16 +38,16 @@ impl<'a, D: Disk, R: Wait + Clock, G: Gate> Model for Asker<'a, D, R, G> {
     ghost view = { λ a. a.pass };
 }
 
-impl<'a, D: Disk, R: Wait + Clock, G: Gate> Asker<'a, D, R, G> {
+impl<'a, D: Disk, B: Origin<D>, R: Wait + Clock, G: Gate> Asker<'a, D, B, R, G> {
     ghost use Rattle.std.specs.Prelude.{◌≡◌};
 
     /// No call was made with the pass.
     pub(crate) fn new(
         rt: &'a R,
-        shared: &'a Shared<D>,
+        shared: &'a Shared<D, B>,
         gate: &'a G,
         pass: Pass,
-    ) -> Asker<'a, D, R, G>
+    ) -> Asker<'a, D, B, R, G>
         ensures { result ≡ pass }
     {
         Asker {
@@ -86,10 +87,10 @@ impl<'a, D: Disk, R: Wait + Clock, G: Gate> Asker<'a, D, R, G> {
     }
 }
 
-impl<'a, D: Disk, R: Wait + Clock, G: Gate> Ask for Asker<'a, D, R, G> {
+impl<'a, D: Disk, B: Origin<D>, R: Wait + Clock, G: Gate> Ask for Asker<'a, D, B, R, G> {
     ghost use Rattle.shared_node.specs.Desks.{DeskAsks};
 
-    ghost asks = { DeskAsks D.is_modelled D.life };
+    ghost asks = { DeskAsks D.is_modelled D.life B.is };
 
     fn ask(&mut self, call: &CoreCall<'_, '_, '_>) -> Answer {
         self.gate.turn(self.pass.conversation(), self.asked);

@@ -6,6 +6,7 @@ ghost use Rattle.shared_node.specs.Served.{IsLost, IsServed};
 
 use crate::asker::Asker;
 use crate::gate::Gate;
+use crate::origin::Origin;
 use crate::shared::Shared;
 use conversation::{Front, Settings};
 use core_history::Pass;
@@ -22,9 +23,9 @@ use stream_service::{Served, serve};
 /// commits behind no statement that may have changed rows, since these make no device call. Behind a loss a checkpoint is
 /// considered.
 #[derive(Drop)]
-pub struct Desk<'a, D: Disk, R: Wait + Clock, G: Gate> {
+pub struct Desk<'a, D: Disk, B: Origin<D>, R: Wait + Clock, G: Gate> {
     rt: &'a R,
-    shared: &'a Shared<D>,
+    shared: &'a Shared<D, B>,
     gate: &'a G,
     pass: Pass,
 }
@@ -42,9 +43,9 @@ pub struct Ended {
     pub longest_hold: u64,
 }
 
-impl<'a, D: Disk, R: Wait + Clock, G: Gate> Desk<'a, D, R, G> {
+impl<'a, D: Disk, B: Origin<D>, R: Wait + Clock, G: Gate> Desk<'a, D, B, R, G> {
     /// A desk for the calls of a pass.
-    pub fn new(rt: &'a R, shared: &'a Shared<D>, gate: &'a G, pass: Pass) -> Desk<'a, D, R, G>
+    pub fn new(rt: &'a R, shared: &'a Shared<D, B>, gate: &'a G, pass: Pass) -> Desk<'a, D, B, R, G>
         ensures { result.pass ≡ pass }
     {
         Desk {
@@ -65,8 +66,8 @@ impl<'a, D: Disk, R: Wait + Clock, G: Gate> Desk<'a, D, R, G> {
         reader: &mut I,
         writer: &mut O,
     ) -> Ended
-        ensures served { IfSome (I.remaining reader.old) (λ input. IsServed (DeskAsks D.is_modelled D.life) settings.now self.entry.pass input (O.contents writer.old) result.served (O.contents writer.new) result.pass) }
-        ensures lost { IsLost (DeskAsks D.is_modelled D.life) self.entry.pass result.served result.pass }
+        ensures served { IfSome (I.remaining reader.old) (λ input. IsServed (DeskAsks D.is_modelled D.life B.is) settings.now self.entry.pass input (O.contents writer.old) result.served (O.contents writer.new) result.pass) }
+        ensures lost { IsLost (DeskAsks D.is_modelled D.life B.is) self.entry.pass result.served result.pass }
     {
         let mut asker = Asker::new(self.rt, self.shared, self.gate, self.pass);
         let served = serve_asker(alloc, settings, &mut asker, reader, writer);
@@ -81,15 +82,15 @@ impl<'a, D: Disk, R: Wait + Clock, G: Gate> Desk<'a, D, R, G> {
 }
 
 // The same, for who asks.
-fn serve_asker<'a, D: Disk, R: Wait + Clock, G: Gate, I: Read, O: Write>(
+fn serve_asker<'a, D: Disk, B: Origin<D>, R: Wait + Clock, G: Gate, I: Read, O: Write>(
     alloc: Global,
     settings: &Settings,
-    asker: &mut Asker<'a, D, R, G>,
+    asker: &mut Asker<'a, D, B, R, G>,
     reader: &mut I,
     writer: &mut O,
 ) -> Served
-    ensures served { IfSome (I.remaining reader.old) (λ input. IsServed (DeskAsks D.is_modelled D.life) settings.now asker.old input (O.contents writer.old) result (O.contents writer.new) asker.new) }
-    ensures lost { IsLost (DeskAsks D.is_modelled D.life) asker.old result asker.new }
+    ensures served { IfSome (I.remaining reader.old) (λ input. IsServed (DeskAsks D.is_modelled D.life B.is) settings.now asker.old input (O.contents writer.old) result (O.contents writer.new) asker.new) }
+    ensures lost { IsLost (DeskAsks D.is_modelled D.life B.is) asker.old result asker.new }
 {
     stays_read();
     match Front::new(alloc, settings) {

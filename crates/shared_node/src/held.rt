@@ -1,31 +1,119 @@
 //! What lies under the lock.
 
+use crate::origin::Origin;
+use crate::turn::{Begun, Turn};
 use crate::waiting::Waiting;
 use core_calls::CoreCall;
 use core_history::{Acted, Book, Pass, Wish, Wished};
 use drda_disk::Disk;
 use recovery::images::calls_go_on;
 use serializability::answers::answers_belong_to_calls;
+use std::marker::{Model, PhantomData};
 use std::sync::Wait;
+use std::time::{Clock, Instant};
 use unit_records::Phase;
 use xa_manager::Decision;
 
-/// What lies under the lock: the book, and a list for the wishes that are being fulfilled, which is used again.
+/// What lies under the lock: the book, which was opened over a core of which this is known, and a list for the wishes that are
+/// being fulfilled, which is used again. To clauses it is the book.
 #[derive(Drop)]
-pub(crate) struct Held<D: Disk> {
+pub(crate) struct Held<D: Disk, B: Origin<D>> {
     pub(crate) book: Book<D>,
     pub(crate) wishes: Vec<Wish>,
+    pub(crate) origin: PhantomData<B>,
 }
 
-impl<D: Disk> Held<D> {
-    ghost use Rattle.std.specs.Prelude.{◌≡◌, Some};
+impl<D: Disk, B: Origin<D>> Model for Held<D, B> {
+    ghost use Rattle.std.specs.Coded.{codes};
+    ghost use Rattle.core_history.specs.Books.{Told};
+    ghost use Rattle.sql_copies.specs.Stored.{coded_predicate};
+
+    ghost Value = { Told D };
+
+    ghost coded = { Prim.hlevel (codes, coded_predicate) };
+
+    ghost view = { λ h. h.book };
+
+    ghost invariant = { λ h. B.is h.book.opening };
+}
+
+impl<D: Disk, B: Origin<D>> Held<D, B> {
+    ghost use Rattle.std.specs.Prelude.{◌≡◌, ◌<◌, ◌↔◌, IfSome, IsTrue, None, Some, false, true};
     ghost use Rattle.core_calls.specs.Call.{call_of};
     ghost use Rattle.core_history.specs.Books.{IsKept};
+    ghost use Rattle.core_history.specs.Passes.{Admits, HasNoLeave, Knows, retired};
     ghost use Rattle.core_history.specs.Wishes.{call_wished};
     ghost use Rattle.recovery.specs.Journaled.{Journaled, shown_on};
     ghost use Rattle.shared_node.specs.Desks.{DeskActs};
+    ghost use Rattle.shared_node.specs.Locked.{Considers};
     ghost use Rattle.shared_node.specs.Standing.{Stands};
     ghost use Rattle.shared_node.specs.Turns.{MayFulfil, TakesTurn};
+
+    /// The book lies there, and nothing is wished for.
+    pub(crate) fn new(book: Book<D>, wishes: Vec<Wish>) -> Held<D, B>
+        requires { B.is book.opening }
+    {
+        Held {
+            book,
+            wishes,
+            origin: PhantomData,
+        }
+    }
+
+    /// The book.
+    pub(crate) fn into_book(self) -> Book<D>
+        ensures book { result ≡ self }
+        ensures origin { B.is result.opening }
+    {
+        self.book
+    }
+
+    /// Leave for one conversation more; None where 64 have it, or no number is left.
+    pub(crate) fn admit(&mut self) -> Option<Pass>
+        ensures some { IfSome result (λ pass. Admits self.old pass self.new) }
+        ensures place { IfSome result (λ pass. pass.place < 64) }
+        ensures none { result ≡ None → (self.new ≡ self.old) × HasNoLeave self.old }
+        ensures was_kept { IsKept D.is_modelled D.life self.old }
+        ensures is_kept { IsKept D.is_modelled D.life self.new }
+        ensures origin { B.is self.old.opening }
+        ensures journaled { Journaled D.is_modelled (shown_on D.life self.old.core) (shown_on D.life self.new.core) }
+    {
+        self.book.is_kept();
+        let pass = self.book.admit();
+        self.book.is_kept();
+        pass
+    }
+
+    /// Writes a checkpoint where one is due, and tells what its turn at the lock was like, which was waited for since this time.
+    pub(crate) fn consider_checkpoint<R: Clock>(&mut self, rt: &R, since: Option<Instant>) -> Turn
+        ensures considers { Considers result self.old self.new }
+        ensures was_kept { IsKept D.is_modelled D.life self.old }
+        ensures is_kept { IsKept D.is_modelled D.life self.new }
+        ensures origin { B.is self.old.opening }
+        ensures journaled { Journaled D.is_modelled (shown_on D.life self.old.core) (shown_on D.life self.new.core) }
+    {
+        self.book.is_kept();
+        let begun = Begun::new(rt, since, &self.book);
+        self.book.consider_checkpoint();
+        self.book.is_kept();
+        begun.end(rt, &self.book)
+    }
+
+    /// Takes a pass back, where the book counts as many calls as the pass.
+    pub(crate) fn retire(&mut self, pass: Pass) -> bool
+        ensures known { IsTrue result ↔ Knows self.old pass }
+        ensures done { result ≡ true → self.new ≡ retired self.old pass }
+        ensures stranger { result ≡ false → self.new ≡ self.old }
+        ensures was_kept { IsKept D.is_modelled D.life self.old }
+        ensures is_kept { IsKept D.is_modelled D.life self.new }
+        ensures origin { B.is self.old.opening }
+        ensures journaled { Journaled D.is_modelled (shown_on D.life self.old.core) (shown_on D.life self.new.core) }
+    {
+        self.book.is_kept();
+        let is_taken = self.book.retire(pass);
+        self.book.is_kept();
+        is_taken
+    }
 
     /// Does one call of a pass, and behind a loss considers a checkpoint.
     pub(crate) fn take_turn<R: Wait>(
@@ -38,10 +126,11 @@ impl<D: Disk> Held<D> {
     ) -> Acted
         requires { (w : _) → wished.now ≡ Some w → call_of call.now ≡ call_wished w }
         ensures shows { DeskActs pass.old (call_of call.now) result pass.new }
-        ensures turn { TakesTurn D.is_modelled D.life pass.old (call_of call.now) result pass.new self.old.book self.new.book }
-        ensures was_kept { IsKept D.is_modelled D.life self.old.book }
-        ensures is_kept { IsKept D.is_modelled D.life self.new.book }
-        ensures journaled { Journaled D.is_modelled (shown_on D.life self.old.book.core) (shown_on D.life self.new.book.core) }
+        ensures turn { TakesTurn D.is_modelled D.life pass.old (call_of call.now) result pass.new self.old self.new }
+        ensures was_kept { IsKept D.is_modelled D.life self.old }
+        ensures is_kept { IsKept D.is_modelled D.life self.new }
+        ensures origin { B.is self.old.opening }
+        ensures journaled { Journaled D.is_modelled (shown_on D.life self.old.core) (shown_on D.life self.new.core) }
     {
         calls_go_on::<D>();
         self.book.is_kept();
@@ -63,8 +152,8 @@ impl<D: Disk> Held<D> {
     ) -> Acted
         requires { (w : _) → wished.now ≡ Some w → call_of call.now ≡ call_wished w }
         ensures shows { DeskActs pass.old (call_of call.now) result pass.new }
-        ensures turn { TakesTurn D.is_modelled D.life pass.old (call_of call.now) result pass.new self.old.book self.new.book }
-        ensures journaled { Journaled D.is_modelled (shown_on D.life self.old.book.core) (shown_on D.life self.new.book.core) }
+        ensures turn { TakesTurn D.is_modelled D.life pass.old (call_of call.now) result pass.new self.old self.new }
+        ensures journaled { Journaled D.is_modelled (shown_on D.life self.old.core) (shown_on D.life self.new.core) }
     {
         calls_go_on::<D>();
         answers_belong_to_calls();
@@ -85,9 +174,9 @@ impl<D: Disk> Held<D> {
 
     // Makes together what is wished for, for all who wait; nothing, where a wish at the pass's place is none of its own.
     fn fulfil<R: Wait>(&mut self, rt: &R, waiting: &Waiting, pass: &Pass, wished: &Wished)
-        ensures fulfils { MayFulfil D.life self.old.book self.new.book }
-        ensures stands { Stands self.old.book pass.now wished.now → Stands self.new.book pass.now wished.now }
-        ensures journaled { Journaled D.is_modelled (shown_on D.life self.old.book.core) (shown_on D.life self.new.book.core) }
+        ensures fulfils { MayFulfil D.life self.old self.new }
+        ensures stands { Stands self.old pass.now wished.now → Stands self.new pass.now wished.now }
+        ensures journaled { Journaled D.is_modelled (shown_on D.life self.old.core) (shown_on D.life self.new.core) }
     {
         waiting.take(rt, &mut self.wishes);
         fulfil_where_fair(&mut self.book, &self.wishes, pass, wished);

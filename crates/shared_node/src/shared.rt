@@ -1,7 +1,8 @@
 //! A book under a lock.
 
 use crate::held::Held;
-use crate::turn::{Begun, Turn, time};
+use crate::origin::Origin;
+use crate::turn::{Turn, time};
 use crate::waiting::Waiting;
 use core_history::{Book, PLACES, Pass};
 use drda_disk::Disk;
@@ -11,21 +12,22 @@ use std::sync::{Mutex, Wait};
 use std::time::Clock;
 
 /// A book under the one lock, to be shared by the threads of its conversations. Which book a call found under the
-/// lock can't be said outside of it, where other threads have made calls before and after it; but that it was kept,
-/// what the call made of it, and that it was kept then.
+/// lock can't be said outside of it, where other threads have made calls before and after it; but over which core it was
+/// opened, that it was kept, what the call made of it, and that it was kept then.
 #[derive(Drop)]
-pub struct Shared<D: Disk> {
-    pub(crate) held: Mutex<Held<D>>,
+pub struct Shared<D: Disk, B: Origin<D>> {
+    pub(crate) held: Mutex<Held<D, B>>,
     pub(crate) waiting: Waiting,
 }
 
-impl<D: Disk> Shared<D> {
-    ghost use Rattle.std.specs.Prelude.{◌≡◌, ◌<◌, [], IfErr, IfOk, IfSome};
+impl<D: Disk, B: Origin<D>> Shared<D, B> {
+    ghost use Rattle.std.specs.Prelude.{◌≡◌, ◌<◌, [], IfErr, IfOk, IfSome, MatchResult, None};
     ghost use Rattle.core_history.specs.Passes.{AreJust, AreListed, calls_in};
-    ghost use Rattle.shared_node.specs.Locked.{Considers, Retires, UnderLock};
+    ghost use Rattle.shared_node.specs.Locked.{Considers, GivesLeave, GivesNone, Retires, UnderLock};
 
     /// Opens a book over a core, under a lock. Out of memory, the core is handed back.
-    pub fn new(alloc: Global, core: DurableCore<D>) -> Result<Shared<D>, DurableCore<D>>
+    pub fn new(alloc: Global, core: DurableCore<D>) -> Result<Shared<D, B>, DurableCore<D>>
+        requires { B.is core }
         ensures { IfErr result (λ back. back ≡ core) }
     {
         let Ok(waiting) = Waiting::new(alloc) else {
@@ -36,54 +38,52 @@ impl<D: Disk> Shared<D> {
         };
         let book = Book::open(alloc, core)?;
         Ok(Shared {
-            held: Mutex::new(Held { book, wishes }),
+            held: Mutex::new(Held::new(book, wishes)),
             waiting,
         })
     }
 
     /// Leave for one conversation more; None where 64 have it, or no number is left.
     pub fn admit<R: Wait>(&self, rt: &R) -> Option<Pass>
-        ensures { IfSome result (λ pass. (pass.place < 64) × (pass.count ≡ 0) × (calls_in pass ≡ [])) }
+        ensures some { IfSome result (λ pass. (pass.place < 64) × (pass.count ≡ 0) × (calls_in pass ≡ [])) }
+        ensures given { IfSome result (λ pass. UnderLock D.is_modelled D.life B.is (GivesLeave pass)) }
+        ensures none { result ≡ None → UnderLock D.is_modelled D.life B.is GivesNone }
     {
-        self.held.lock(rt).book.admit()
+        let mut guard = self.held.lock(rt);
+        let held = &mut *guard;
+        held.admit()
     }
 
     /// Writes a checkpoint where one is due, and tells what its turn at the lock was like.
     pub fn consider_checkpoint<R: Wait + Clock>(&self, rt: &R) -> Turn
-        ensures { UnderLock D.is_modelled D.life (Considers result) }
+        ensures { UnderLock D.is_modelled D.life B.is (Considers result) }
     {
         let came = time(rt);
         let mut guard = self.held.lock(rt);
-        let book = &mut guard.book;
-        book.is_kept();
-        let begun = Begun::new(rt, came, book);
-        book.consider_checkpoint();
-        book.is_kept();
-        begun.end(rt, book)
+        let held = &mut *guard;
+        held.consider_checkpoint(rt, came)
     }
 
     /// Takes a pass back, whose conversation was lost, and its place is free. False where the book does not count as
     /// the pass does: then nothing is done.
     pub fn retire<R: Wait>(&self, rt: &R, pass: Pass) -> bool
-        ensures { UnderLock D.is_modelled D.life (Retires pass result) }
+        ensures { UnderLock D.is_modelled D.life B.is (Retires pass result) }
     {
         let mut guard = self.held.lock(rt);
-        let book = &mut guard.book;
-        book.is_kept();
-        let is_taken = book.retire(pass);
-        book.is_kept();
-        is_taken
+        let held = &mut *guard;
+        held.retire(pass)
     }
 
     /// The book, once nobody shares it, as it was found. `Ok` comes exactly where these passes are all that have leave
     /// at it, each once and counted as the book counts: so it lists just as many calls of each as the pass does. Else
     /// `Err` comes, with the book: some of the passes are a stranger's, or some are missing.
     pub fn close(self, passes: Vec<Pass>) -> Result<Book<D>, Book<D>>
+        ensures origin { MatchResult result (λ book. B.is book.opening) (λ book. B.is book.opening) }
         ensures just { IfOk result (AreJust passes.items) }
         ensures listed { IfOk result (AreListed passes.items) }
         ensures stranger { IfErr result (λ book. AreJust passes.items book → ⊥) }
     {
-        let book = self.held.into_inner().book;
+        let book = self.held.into_inner().into_book();
         if book.is_just(&passes) {
             return Ok(book);
         }

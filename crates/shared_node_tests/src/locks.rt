@@ -6,6 +6,7 @@ use conversation::Settings;
 use drda_disk::{FuseDisk, MemDisk};
 use shared_node::{Desk, Pass, Shared};
 use std::alloc::Global;
+use std::marker::Brand;
 use std::sync::Wait;
 use std::time::Clock;
 use test_bytes::{bytes_of, push_texts};
@@ -15,7 +16,7 @@ use test_calls::push_text;
 #[derive(Drop)]
 pub struct Locks {
     alloc: Global,
-    shared: Option<Shared<FuseDisk<MemDisk>>>,
+    shared: Option<Shared<FuseDisk<MemDisk>, Brand>>,
     passes: Vec<Option<Pass>>,
 }
 
@@ -63,7 +64,7 @@ fn ends_in(replies: &[u8]) -> u64 {
 fn hold<R: Wait + Clock>(
     rt: &R,
     alloc: Global,
-    shared: &Shared<FuseDisk<MemDisk>>,
+    shared: &Shared<FuseDisk<MemDisk>, Brand>,
     writes: bool,
     times: u64,
 ) -> Option<(Pass, u64, Told)> {

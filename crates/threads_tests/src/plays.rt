@@ -8,7 +8,7 @@ use drda_program::{Silent, Streams, serve_streams};
 use durable_core::{DurableCore, open};
 use shared_node::{Book, Shared};
 use std::alloc::Global;
-use std::marker::Sync;
+use std::marker::{Brand, Sync};
 use std::sync::Wait;
 use std::thread::{Threads, yield_now};
 use std::time::Clock;
@@ -114,7 +114,7 @@ fn serve<R: Threads + Wait + Clock + Sync>(
     stage: &Stage<'_>,
     callers: &mut Callers<'_>,
 ) -> Option<(Book<MemDisk>, bool)> {
-    let shared = match Shared::new(alloc, core) {
+    let shared: Shared<MemDisk, Brand> = match Shared::new(alloc, core) {
         Ok(shared) => shared,
         Err(_) => return None,
     };

@@ -13,7 +13,7 @@ returns-in_err-say_port-in-Ok g c = record {
   bound = inr (
     c.in-Ok.listener,
     c.in-Ok.ensures,
-    not_said g.N.Network.calls g.D.Disk.is_modelled g.D.Disk.life g.N.Stream.Read.remaining g.N.Writer.Write.contents c.args.options c.args.settings.now c.in-Ok.listener (g.W.Write.contents c.args.out.now) (g.W.Write.contents c.say_port.new.out) c.in_err-say_port-in-Ok.field-0.0 c.from_residual.result (search rules) c.in_err-say_port-in-Ok.ensures.cause,
+    not_said g.N.Network.calls g.D.Disk.is_modelled g.D.Disk.life g.B.Origin.is g.N.Stream.Read.remaining g.N.Writer.Write.contents c.args.options c.args.settings.now c.in-Ok.listener (g.W.Write.contents c.args.out.now) (g.W.Write.contents c.say_port.new.out) c.in_err-say_port-in-Ok.field-0.0 c.from_residual.result (search rules) c.in_err-say_port-in-Ok.ensures.cause,
   );
 }
 
@@ -25,6 +25,6 @@ returns-in_ok-say_port-in-Ok g c = record {
   bound = inr (
     c.in-Ok.listener,
     c.in-Ok.ensures,
-    said_then g.N.Network.calls g.D.Disk.is_modelled g.D.Disk.life g.N.Stream.Read.remaining g.N.Writer.Write.contents c.args.options c.args.settings.now c.in-Ok.listener (g.W.Write.contents c.args.out.now) (g.W.Write.contents c.say_port.new.out) NoMemory c.serve_all.result c.in_ok-say_port-in-Ok.ensures.said c.serve_all.ensures.cause c.serve_all.ensures.served,
+    said_then g.N.Network.calls g.D.Disk.is_modelled g.D.Disk.life g.B.Origin.is g.N.Stream.Read.remaining g.N.Writer.Write.contents c.args.options c.args.settings.now c.in-Ok.listener (g.W.Write.contents c.args.out.now) (g.W.Write.contents c.say_port.new.out) NoMemory c.serve_all.result c.in_ok-say_port-in-Ok.ensures.said c.serve_all.ensures.cause c.serve_all.ensures.served,
   );
 }
