@@ -6,6 +6,7 @@ pub mod closing;
 mod desk;
 mod gate;
 mod held;
+mod returning;
 mod shared;
 mod turn;
 mod waiting;
