@@ -2,12 +2,15 @@
 //! for each other; what became of them goes to standard output, which is compared.
 #![tactic(auto)]
 
+mod bells;
 mod cues;
+mod disks;
 mod plays;
 mod rows;
 mod stages;
 mod talks;
 
+use crate::bells::Bell;
 use crate::rows::Rows;
 use std::io::{self, Write};
 use std::process::ExitCode;
@@ -16,7 +19,8 @@ fn main(rt: HostRuntime) -> ExitCode {
     let Ok(text) = io::read_to_string(rt.alloc(), rt.stdin()) else {
         return ExitCode::from(1);
     };
-    let mut rows = Rows::new(&rt, rt.alloc());
+    let bell = Bell::new();
+    let mut rows = Rows::new(&rt, rt.alloc(), &bell);
     let is_done = rows.follow(&text).is_some();
     match tell(&rt, rows.written()) {
         Ok(()) if is_done => ExitCode::from(0),

@@ -1,9 +1,10 @@
 //! Conversations that are served over one core, a thread for each.
 
-use crate::stages::{Cue, LIMIT, Stage};
+use crate::bells::{Bell, LIMIT};
+use crate::disks::StillDisk;
+use crate::stages::{Cue, Stage};
 use crate::talks::{Checker, Talk, Tape};
 use conversation::Settings;
-use drda_disk::MemDisk;
 use drda_program::{Silent, Streams, serve_streams};
 use durable_core::{DurableCore, open};
 use shared_node::{Book, Shared};
@@ -14,12 +15,12 @@ use std::thread::{Threads, yield_now};
 use std::time::Clock;
 use test_nodes::fresh_store;
 
-/// A core over a disk in memory.
-pub type Core = DurableCore<MemDisk>;
+/// A core over a disk in memory that may stand still.
+pub type Core<'r> = DurableCore<StillDisk<'r>>;
 
 /// The core of a fresh store of the name SHOP. None without memory.
-pub fn fresh_core(alloc: Global) -> Option<Core> {
-    match open(alloc, fresh_store(alloc)?) {
+pub fn fresh_core<'r>(alloc: Global, bell: &'r Bell) -> Option<Core<'r>> {
+    match open(alloc, StillDisk::new(fresh_store(alloc)?, bell)) {
         Ok(core) => Some(core),
         Err(_) => None,
     }
@@ -76,15 +77,16 @@ impl<'a> Streams for Callers<'a> {
 
 /// Serves these conversations over a core, which is handed back; they wait for each other by these cues. Where
 /// `is_crowd`, the last one comes again and again, until it is heard. None without memory.
-pub fn play<R: Threads + Wait + Clock + Sync>(
+pub fn play<'r, R: Threads + Wait + Clock + Sync>(
     rt: &R,
     alloc: Global,
-    core: Core,
+    core: Core<'r>,
+    bell: &'r Bell,
     cues: &[Cue],
     talks: &[Talk],
     is_crowd: bool,
-) -> Option<(Left, Core)> {
-    let stage = Stage::new(cues);
+) -> Option<(Left, Core<'r>)> {
+    let stage = Stage::new(cues, bell);
     let (talks, again) = match talks.split_last() {
         Some((last, others)) if is_crowd => (others, Some(last)),
         _ => (talks, None),
@@ -98,7 +100,7 @@ pub fn play<R: Threads + Wait + Clock + Sync>(
     };
     let (book, is_idle) = serve(rt, alloc, core, &stage, &mut callers)?;
     let left = Left {
-        late: stage.late(),
+        late: bell.late(),
         is_idle,
         is_failed: book.core().is_failed(),
     };
@@ -107,13 +109,13 @@ pub fn play<R: Threads + Wait + Clock + Sync>(
 
 // Serves the conversations of these callers over a core, for ana with the password pw. The book that is left, and whether all
 // leave came back to it. None without memory.
-fn serve<R: Threads + Wait + Clock + Sync>(
+fn serve<'r, R: Threads + Wait + Clock + Sync>(
     rt: &R,
     alloc: Global,
-    core: Core,
+    core: Core<'r>,
     stage: &Stage<'_>,
     callers: &mut Callers<'_>,
-) -> Option<(Book<MemDisk>, bool)> {
+) -> Option<(Book<StillDisk<'r>>, bool)> {
     let shared = match Shared::new(alloc, core) {
         Ok(shared) => shared,
         Err(_) => return None,

@@ -1,5 +1,6 @@
 //! What conversations say and where they wait for each other, a line each.
 
+use crate::bells::Bell;
 use crate::cues::{cue_of, push_order};
 use crate::plays::{Core, fresh_core, play};
 use crate::stages::Cue;
@@ -16,8 +17,9 @@ use test_bytes::bytes_of;
 pub struct Rows<'r, R> {
     rt: &'r R,
     alloc: Global,
+    bell: &'r Bell,
     named: Vec<Named>,
-    core: Option<Core>,
+    core: Option<Core<'r>>,
     cues: Vec<Cue>,
     talks: Vec<Talk>,
     written: Vec<u8>,
@@ -44,10 +46,11 @@ fn push_ends(alloc: Global, talks: &[Talk], out: &mut Vec<u8>) -> Option<()> {
 
 impl<'r, R: Threads + Wait + Clock + Sync> Rows<'r, R> {
     /// Nothing.
-    pub fn new(rt: &'r R, alloc: Global) -> Rows<'r, R> {
+    pub fn new(rt: &'r R, alloc: Global, bell: &'r Bell) -> Rows<'r, R> {
         Rows {
             rt,
             alloc,
+            bell,
             named: Vec::new(alloc),
             core: None,
             cues: Vec::new(alloc),
@@ -81,7 +84,7 @@ impl<'r, R: Threads + Wait + Clock + Sync> Rows<'r, R> {
         match verb {
             "name" => self.lay_name(rest),
             "fresh" => {
-                self.core = Some(fresh_core(self.alloc)?);
+                self.core = Some(fresh_core(self.alloc, self.bell)?);
                 Some(())
             }
             "talks" => self.lay_talks(rest),
@@ -115,7 +118,15 @@ impl<'r, R: Threads + Wait + Clock + Sync> Rows<'r, R> {
     // Serves the conversations over the core, and tells what became of them. Then there are none.
     fn serve(&mut self, is_crowd: bool) -> Option<()> {
         let core = self.core.take()?;
-        let (left, core) = play(self.rt, self.alloc, core, &self.cues, &self.talks, is_crowd)?;
+        let (left, core) = play(
+            self.rt,
+            self.alloc,
+            core,
+            self.bell,
+            &self.cues,
+            &self.talks,
+            is_crowd,
+        )?;
         self.core = Some(core);
         let (late, is_idle, is_failed) = (left.late, left.is_idle, left.is_failed);
         let told = format!(in self.alloc;

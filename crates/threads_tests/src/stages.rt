@@ -1,11 +1,7 @@
 //! Who waits where, and for whom.
 
+use crate::bells::Bell;
 use shared_node::Gate;
-use std::sync::atomic::{AtomicU64, Ordering};
-use std::thread::yield_now;
-
-/// How often is looked at most, until what is waited for has come.
-pub const LIMIT: u64 = 10_000_000;
 
 /// Where a conversation is: before a call, a read or a write of its own, counted from 0, or where its stream was closed.
 #[derive(Clone, Copy, PartialEq, Eq)]
@@ -23,6 +19,8 @@ pub enum Act {
     Tells,
     /// It is waited until this many were told.
     Awaits(u64),
+    /// From now on the disk stands still in its syncs, until this many were told.
+    Stills(u64),
 }
 
 /// What conversations, from one number to another, do at a point.
@@ -37,18 +35,14 @@ pub struct Cue {
 #[derive(Drop)]
 pub struct Stage<'a> {
     cues: &'a [Cue],
-    told: AtomicU64,
-    late: AtomicU64,
+    bell: &'a Bell,
 }
 
 impl<'a> Stage<'a> {
     /// Nothing was told yet.
-    pub fn new(cues: &'a [Cue]) -> Stage<'a> {
-        Stage {
-            cues,
-            told: AtomicU64::new(0),
-            late: AtomicU64::new(0),
-        }
+    pub fn new(cues: &'a [Cue], bell: &'a Bell) -> Stage<'a> {
+        bell.begin();
+        Stage { cues, bell }
     }
 
     /// A conversation has come to a point.
@@ -63,34 +57,15 @@ impl<'a> Stage<'a> {
 
     fn follow(&self, act: Act) {
         match act {
-            Act::Tells => self.tell(),
-            Act::Awaits(number) => {
-                if !self.is_told(number) {
-                    self.late.fetch_add(1, Ordering::SeqCst);
-                }
-            }
+            Act::Tells => self.bell.tell(),
+            Act::Awaits(number) => self.bell.wait(number),
+            Act::Stills(number) => self.bell.still(number),
         }
     }
 
     /// One more is told.
     pub fn tell(&self) {
-        self.told.fetch_add(1, Ordering::SeqCst);
-    }
-
-    // Waits until this many were told. False where that took too long.
-    fn is_told(&self, number: u64) -> bool {
-        for _ in 0..LIMIT {
-            if self.told.load(Ordering::SeqCst) >= number {
-                return true;
-            }
-            yield_now();
-        }
-        false
-    }
-
-    /// How many have waited for too long.
-    pub fn late(&self) -> u64 {
-        self.late.load(Ordering::SeqCst)
+        self.bell.tell();
     }
 }
 
