@@ -4,30 +4,30 @@ ghost use Rattle.std.specs.Prelude.{◌≡◌, false};
 ghost use Rattle.drda_disk.specs.File.{no_image};
 
 use crate::bells::Bell;
-use drda_disk::{Disk, DiskFault, MemDisk};
+use drda_disk::{Disk, DiskFault};
 
-/// A disk in memory, whose syncs wait for what is told.
+/// A disk that passes each call on to the one inside, and whose syncs wait for what is told.
 #[derive(Drop)]
-pub struct StillDisk<'r> {
-    inner: MemDisk,
+pub struct StillDisk<'r, D: Disk> {
+    inner: D,
     bell: &'r Bell,
 }
 
-impl<'r> StillDisk<'r> {
+impl<'r, D: Disk> StillDisk<'r, D> {
     /// Over this disk.
-    pub fn new(inner: MemDisk, bell: &'r Bell) -> StillDisk<'r> {
+    pub fn new(inner: D, bell: &'r Bell) -> StillDisk<'r, D> {
         StillDisk { inner, bell }
     }
 }
 
-impl Disk for StillDisk<'_> {
+impl<D: Disk> Disk for StillDisk<'_, D> {
     ghost is_modelled = { false };
 
-    ghost life = { λ d. MemDisk.life d.inner };
+    ghost life = { λ d. D.life d.inner };
 
     ghost read_is_image = { λ _ told. no_image told };
 
-    ghost now_counts = { λ d. MemDisk.now_counts d.inner };
+    ghost now_counts = { λ d. D.now_counts d.inner };
 
     fn size(&self) -> usize {
         self.inner.size()

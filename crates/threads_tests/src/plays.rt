@@ -5,6 +5,7 @@ use crate::disks::StillDisk;
 use crate::stages::{Cue, Stage};
 use crate::talks::{Checker, Talk, Tape};
 use conversation::Settings;
+use drda_disk::MemDisk;
 use drda_program::{Silent, Streams, serve_streams};
 use durable_core::{DurableCore, open};
 use shared_node::{Book, Shared};
@@ -16,7 +17,7 @@ use std::time::Clock;
 use test_nodes::fresh_store;
 
 /// A core over a disk in memory that may stand still.
-pub type Core<'r> = DurableCore<StillDisk<'r>>;
+pub type Core<'r> = DurableCore<StillDisk<'r, MemDisk>>;
 
 /// The core of a fresh store of the name SHOP. None without memory.
 pub fn fresh_core<'r>(alloc: Global, bell: &'r Bell) -> Option<Core<'r>> {
@@ -115,7 +116,7 @@ fn serve<'r, R: Threads + Wait + Clock + Sync>(
     core: Core<'r>,
     stage: &Stage<'_>,
     callers: &mut Callers<'_>,
-) -> Option<(Book<StillDisk<'r>>, bool)> {
+) -> Option<(Book<StillDisk<'r, MemDisk>>, bool)> {
     let shared = match Shared::new(alloc, core) {
         Ok(shared) => shared,
         Err(_) => return None,
