@@ -19,18 +19,13 @@ fn point_of(text: &str) -> Option<(Point, &str)> {
     Some((point, rest))
 }
 
-// `tells`, `awaits N` or `stills N`.
+// `tells`, or `awaits N`.
 fn act_of(text: &str) -> Option<Act> {
     if text == "tells" {
         return Some(Act::Tells);
     }
-    let (verb, number) = text.split_once(' ')?;
-    let number = number.parse::<u64>().ok()?;
-    match verb {
-        "awaits" => Some(Act::Awaits(number)),
-        "stills" => Some(Act::Stills(number)),
-        _ => None,
-    }
+    let number = text.strip_prefix("awaits ")?;
+    Some(Act::Awaits(number.parse::<u64>().ok()?))
 }
 
 /// The cue of the conversations from one number to another at a point: `FROM TO POINT ACT`.

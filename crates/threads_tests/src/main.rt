@@ -2,15 +2,12 @@
 //! for each other; what became of them goes to standard output, which is compared.
 #![tactic(auto)]
 
-mod bells;
 mod cues;
-mod disks;
 mod plays;
 mod rows;
 mod stages;
 mod talks;
 
-use crate::bells::Bell;
 use crate::rows::Rows;
 use std::io::{self, Write};
 use std::process::ExitCode;
@@ -19,8 +16,7 @@ fn main(rt: HostRuntime) -> ExitCode {
     let Ok(text) = io::read_to_string(rt.alloc(), rt.stdin()) else {
         return ExitCode::from(1);
     };
-    let bell = Bell::new();
-    let mut rows = Rows::new(&rt, rt.alloc(), &bell);
+    let mut rows = Rows::new(&rt, rt.alloc());
     let is_done = rows.follow(&text).is_some();
     match tell(&rt, rows.written()) {
         Ok(()) if is_done => ExitCode::from(0),

@@ -1,8 +1,6 @@
 //! Conversations that are served over one core, a thread for each.
 
-use crate::bells::{Bell, LIMIT};
-use crate::disks::StillDisk;
-use crate::stages::{Cue, Stage};
+use crate::stages::{Cue, LIMIT, Stage};
 use crate::talks::{Checker, Talk, Tape};
 use conversation::Settings;
 use drda_disk::MemDisk;
@@ -16,12 +14,12 @@ use std::thread::{Threads, yield_now};
 use std::time::Clock;
 use test_nodes::fresh_store;
 
-/// A core over a disk in memory that may stand still.
-pub type Core<'r> = DurableCore<StillDisk<'r, MemDisk>>;
+/// A core over a disk in memory.
+pub type Core = DurableCore<MemDisk>;
 
 /// The core of a fresh store of the name SHOP. None without memory.
-pub fn fresh_core<'r>(alloc: Global, bell: &'r Bell) -> Option<Core<'r>> {
-    match open(alloc, StillDisk::new(fresh_store(alloc)?, bell)) {
+pub fn fresh_core(alloc: Global) -> Option<Core> {
+    match open(alloc, fresh_store(alloc)?) {
         Ok(core) => Some(core),
         Err(_) => None,
     }
@@ -78,16 +76,15 @@ impl<'a> Streams for Callers<'a> {
 
 /// Serves these conversations over a core, which is handed back; they wait for each other by these cues. Where
 /// `is_crowd`, the last one comes again and again, until it is heard. None without memory.
-pub fn play<'r, R: Threads + Wait + Clock + Sync>(
+pub fn play<R: Threads + Wait + Clock + Sync>(
     rt: &R,
     alloc: Global,
-    core: Core<'r>,
-    bell: &'r Bell,
+    core: Core,
     cues: &[Cue],
     talks: &[Talk],
     is_crowd: bool,
-) -> Option<(Left, Core<'r>)> {
-    let stage = Stage::new(cues, bell);
+) -> Option<(Left, Core)> {
+    let stage = Stage::new(cues);
     let (talks, again) = match talks.split_last() {
         Some((last, others)) if is_crowd => (others, Some(last)),
         _ => (talks, None),
@@ -101,7 +98,7 @@ pub fn play<'r, R: Threads + Wait + Clock + Sync>(
     };
     let (book, is_idle) = serve(rt, alloc, core, &stage, &mut callers)?;
     let left = Left {
-        late: bell.late(),
+        late: stage.late(),
         is_idle,
         is_failed: book.core().is_failed(),
     };
@@ -110,13 +107,13 @@ pub fn play<'r, R: Threads + Wait + Clock + Sync>(
 
 // Serves the conversations of these callers over a core, for ana with the password pw. The book that is left, and whether all
 // leave came back to it. None without memory.
-fn serve<'r, R: Threads + Wait + Clock + Sync>(
+fn serve<R: Threads + Wait + Clock + Sync>(
     rt: &R,
     alloc: Global,
-    core: Core<'r>,
+    core: Core,
     stage: &Stage<'_>,
     callers: &mut Callers<'_>,
-) -> Option<(Book<StillDisk<'r, MemDisk>>, bool)> {
+) -> Option<(Book<MemDisk>, bool)> {
     let shared = match Shared::new(alloc, core) {
         Ok(shared) => shared,
         Err(_) => return None,

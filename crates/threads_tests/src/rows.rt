@@ -1,6 +1,5 @@
 //! What conversations say and where they wait for each other, a line each.
 
-use crate::bells::Bell;
 use crate::cues::{cue_of, push_order};
 use crate::plays::{Core, fresh_core, play};
 use crate::stages::Cue;
@@ -17,9 +16,8 @@ use test_bytes::bytes_of;
 pub struct Rows<'r, R> {
     rt: &'r R,
     alloc: Global,
-    bell: &'r Bell,
     named: Vec<Named>,
-    core: Option<Core<'r>>,
+    core: Option<Core>,
     cues: Vec<Cue>,
     talks: Vec<Talk>,
     written: Vec<u8>,
@@ -46,11 +44,10 @@ fn push_ends(alloc: Global, talks: &[Talk], out: &mut Vec<u8>) -> Option<()> {
 
 impl<'r, R: Threads + Wait + Clock + Sync> Rows<'r, R> {
     /// Nothing.
-    pub fn new(rt: &'r R, alloc: Global, bell: &'r Bell) -> Rows<'r, R> {
+    pub fn new(rt: &'r R, alloc: Global) -> Rows<'r, R> {
         Rows {
             rt,
             alloc,
-            bell,
             named: Vec::new(alloc),
             core: None,
             cues: Vec::new(alloc),
@@ -84,7 +81,7 @@ impl<'r, R: Threads + Wait + Clock + Sync> Rows<'r, R> {
         match verb {
             "name" => self.lay_name(rest),
             "fresh" => {
-                self.core = Some(fresh_core(self.alloc, self.bell)?);
+                self.core = Some(fresh_core(self.alloc)?);
                 Some(())
             }
             "talks" => self.lay_talks(rest),
@@ -118,15 +115,7 @@ impl<'r, R: Threads + Wait + Clock + Sync> Rows<'r, R> {
     // Serves the conversations over the core, and tells what became of them. Then there are none.
     fn serve(&mut self, is_crowd: bool) -> Option<()> {
         let core = self.core.take()?;
-        let (left, core) = play(
-            self.rt,
-            self.alloc,
-            core,
-            self.bell,
-            &self.cues,
-            &self.talks,
-            is_crowd,
-        )?;
+        let (left, core) = play(self.rt, self.alloc, core, &self.cues, &self.talks, is_crowd)?;
         self.core = Some(core);
         let (late, is_idle, is_failed) = (left.late, left.is_idle, left.is_failed);
         let told = format!(in self.alloc;

@@ -1,7 +1,11 @@
 //! Who waits where, and for whom.
 
-use crate::bells::Bell;
 use shared_node::Gate;
+use std::sync::atomic::{AtomicU64, Ordering};
+use std::thread::yield_now;
+
+/// How often is looked at most, until what is waited for has come.
+pub const LIMIT: u64 = 10_000_000;
 
 /// Where a conversation is: before a call, a read or a write of its own, counted from 0, or where its stream was closed.
 #[derive(Clone, Copy, PartialEq, Eq)]
@@ -19,8 +23,6 @@ pub enum Act {
     Tells,
     /// It is waited until this many were told.
     Awaits(u64),
-    /// From now on the disk stands still in its syncs, until this many were told.
-    Stills(u64),
 }
 
 /// What conversations, from one number to another, do at a point.
@@ -35,14 +37,18 @@ pub struct Cue {
 #[derive(Drop)]
 pub struct Stage<'a> {
     cues: &'a [Cue],
-    bell: &'a Bell,
+    told: AtomicU64,
+    late: AtomicU64,
 }
 
 impl<'a> Stage<'a> {
     /// Nothing was told yet.
-    pub fn new(cues: &'a [Cue], bell: &'a Bell) -> Stage<'a> {
-        bell.begin();
-        Stage { cues, bell }
+    pub fn new(cues: &'a [Cue]) -> Stage<'a> {
+        Stage {
+            cues,
+            told: AtomicU64::new(0),
+            late: AtomicU64::new(0),
+        }
     }
 
     /// A conversation has come to a point.
@@ -57,15 +63,34 @@ impl<'a> Stage<'a> {
 
     fn follow(&self, act: Act) {
         match act {
-            Act::Tells => self.bell.tell(),
-            Act::Awaits(number) => self.bell.wait(number),
-            Act::Stills(number) => self.bell.still(number),
+            Act::Tells => self.tell(),
+            Act::Awaits(number) => {
+                if !self.is_told(number) {
+                    self.late.fetch_add(1, Ordering::SeqCst);
+                }
+            }
         }
     }
 
     /// One more is told.
     pub fn tell(&self) {
-        self.bell.tell();
+        self.told.fetch_add(1, Ordering::SeqCst);
+    }
+
+    // Waits until this many were told. False where that took too long.
+    fn is_told(&self, number: u64) -> bool {
+        for _ in 0..LIMIT {
+            if self.told.load(Ordering::SeqCst) >= number {
+                return true;
+            }
+            yield_now();
+        }
+        false
+    }
+
+    /// How many have waited for too long.
+    pub fn late(&self) -> u64 {
+        self.late.load(Ordering::SeqCst)
     }
 }
 
