@@ -111,7 +111,7 @@ impl<'a, D: Disk, B: Origin<D>, R: Wait + Clock, G: Gate> Ask for Asker<'a, D, B
             (acted, begun.end(self.rt, &held.book))
         };
         if leads {
-            self.shared.waiting.end(self.rt);
+            self.shared.waiting.end(self.rt, turn.held);
         }
         self.waited = self.waited.max(turn.waited);
         self.held = self.held.max(turn.held);
