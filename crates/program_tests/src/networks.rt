@@ -5,8 +5,8 @@ use std::io::{self, ErrorKind, Read, Write};
 use std::net::{Ipv4Addr, SocketAddr, SocketAddrV4};
 
 /// A network with one listener, of this machine alone, asked for the port 0 or 4711 and found at 4711. By its way the ports are `taken`; none
-/// is let in (`shut`); letting one in fails 99 times before (`late`), or 100 times (`too-late`); or the first caller is broken and the others
-/// are not (`broken-then`). By any other way each caller is such a one. Each says the same, and has a second handle only once it was asked to
+/// is let in (`shut`); letting one in fails 99 times before the first (`late`), before each (`late-each`), or 100 times (`too-late`); or the first
+/// caller is broken and the others are not (`broken-then`). By any other way each caller is such a one. Each says the same, and has a second handle only once it was asked to
 /// hurry.
 #[derive(Drop)]
 pub struct Callers<'a> {
@@ -21,6 +21,8 @@ pub struct Callers<'a> {
     is_hurried: bool,
     /// To how many seconds the reads of the last one were limited, 0 where they were not.
     pub limit: u32,
+    /// How often it was paused.
+    pub pauses: u64,
 }
 
 /// Who calls. One that is `broken` can't be read, one that is `deaf` can't be written to, `alone` has no second handle and `slow` can't be
@@ -29,6 +31,15 @@ pub struct Callers<'a> {
 pub struct Call<'a> {
     way: &'a str,
     said: &'a [u8],
+}
+
+// How often letting one in fails before the first.
+fn failures_of(way: &str) -> u64 {
+    match way {
+        "late" | "late-each" => 99,
+        "too-late" => 100,
+        _ => 0,
+    }
 }
 
 fn refused<T>() -> io::Result<T> {
@@ -43,19 +54,15 @@ pub fn address(port: u16) -> SocketAddr {
 impl<'a> Callers<'a> {
     /// Such a network, to which nobody has come yet.
     pub fn new(way: &'a str, said: &'a [u8]) -> Callers<'a> {
-        let failures = match way {
-            "late" => 99,
-            "too-late" => 100,
-            _ => 0,
-        };
         Callers {
             way,
             said,
-            failures,
+            failures: failures_of(way),
             has_come: false,
             is_refused: false,
             is_hurried: false,
             limit: 0,
+            pauses: 0,
         }
     }
 }
@@ -92,6 +99,9 @@ impl<'a> Network for Callers<'a> {
             "broken-then" => "broken",
             way => way,
         };
+        if self.way == "late-each" {
+            self.failures = failures_of(self.way);
+        }
         self.has_come = true;
         self.is_hurried = false;
         Ok(Call {
@@ -138,7 +148,9 @@ impl<'a> Network for Callers<'a> {
         })
     }
 
-    fn pause(&mut self) {}
+    fn pause(&mut self) {
+        self.pauses = self.pauses.saturating_add(1);
+    }
 }
 
 impl Read for Call<'_> {

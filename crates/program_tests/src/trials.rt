@@ -31,7 +31,7 @@ struct Scene<'a> {
 /// its name, or it is taken away where they are 0; with `sockets` two sockets meet.
 ///
 /// Tells each line with what the program came to: its status, the size of the file that it made, what it wrote, the lines of its log, the
-/// limit of a stream's reads, and what it said on standard error. None where a line is none of these, and without memory.
+/// limit of a stream's reads, how often letting one in was paused, and what it said on standard error. None where a line is none of these, and without memory.
 pub fn follow<T: Threads + Wait + Clock + Files<File = File> + Net + Sync>(
     place: &Place<'_, T>,
     text: &str,
@@ -152,7 +152,7 @@ where
         err.taken.clear();
     }
     let lines = log.into_lines();
-    match push_said(place.alloc, &out.taken, &lines, net.limit, &err.taken, said) {
+    match push_said(place.alloc, &out.taken, &lines, &net, &err.taken, said) {
         Some(()) => Some(status),
         None => None,
     }
@@ -162,15 +162,20 @@ fn push_said(
     alloc: Global,
     out: &[u8],
     lines: &str,
-    limit: u32,
+    net: &Callers<'_>,
     err: &[u8],
     said: &mut Vec<u8>,
 ) -> Option<()> {
     said.extend_from_slice(out).ok()?;
     push_lines(said, lines, false)?;
     push_lines(said, lines, true)?;
+    let (limit, pauses) = (net.limit, net.pauses);
     if limit > 0 {
         let text = format!(in alloc; "reads limited to {limit} s\n").ok()?;
+        said.extend_from_slice(text.as_bytes()).ok()?;
+    }
+    if pauses > 0 {
+        let text = format!(in alloc; "paused {pauses} times\n").ok()?;
         said.extend_from_slice(text.as_bytes()).ok()?;
     }
     said.extend_from_slice(err).ok()

@@ -25,6 +25,24 @@ pub fn fresh_core(alloc: Global) -> Option<Core> {
     }
 }
 
+/// What is opened of a core's disk behind a crash, which leaves of each write that was not synced what `pick` says. None without memory.
+pub fn crashed(alloc: Global, core: Core, pick: u64) -> Option<Core> {
+    match open(alloc, core.into_disk().after_crash(pick)) {
+        Ok(core) => Some(core),
+        Err(_) => None,
+    }
+}
+
+/// How many units are in doubt.
+pub fn doubts_of(core: &Core) -> u64 {
+    let mut left = core.in_doubt();
+    let mut doubts = 0_u64;
+    while let Some(_) = left.next() {
+        doubts = doubts.saturating_add(1);
+    }
+    doubts
+}
+
 /// What is left when all have ended: how many waited for too long, whether each has given its leave back, and
 /// whether the device has failed.
 #[derive(Clone, Copy)]
@@ -34,11 +52,16 @@ pub struct Left {
     pub is_failed: bool,
 }
 
+/// Of more conversations than these, each comes only when the one that came so many before it has ended: so none is turned away.
+const MANY: usize = 100;
+const AT_A_TIME: u64 = 32;
+
 /// Conversations that come one after the other, and are numbered from 1 on; and one more that comes again and
 /// again, until it is heard.
 #[derive(Drop)]
 struct Callers<'a> {
     stage: &'a Stage<'a>,
+    all: &'a [Talk],
     talks: &'a [Talk],
     again: Option<&'a Talk>,
     number: u64,
@@ -46,6 +69,17 @@ struct Callers<'a> {
 }
 
 impl<'a> Callers<'a> {
+    // Where many come, waits until the one that came before those of a time has ended.
+    fn wait_for_place(&self) {
+        if self.all.len() <= MANY || self.number < AT_A_TIME {
+            return;
+        }
+        let before = self.number.saturating_sub(AT_A_TIME);
+        if let Some(talk) = self.all.get(before as usize) {
+            talk.wait_for_end();
+        }
+    }
+
     // The conversation that comes again and again. Once it is heard, it is told, and none comes any more.
     fn try_again(&mut self) -> Option<(Tape<'a>, Checker<'a>)> {
         let talk = self.again?;
@@ -68,6 +102,7 @@ impl<'a> Streams for Callers<'a> {
         let Some((talk, talks)) = self.talks.split_first() else {
             return self.try_again();
         };
+        self.wait_for_place();
         self.talks = talks;
         self.number = self.number.saturating_add(1);
         Some(talk.streams(self.stage, self.number))
@@ -91,6 +126,7 @@ pub fn play<R: Threads + Wait + Clock + Sync>(
     };
     let mut callers = Callers {
         stage: &stage,
+        all: talks,
         talks,
         again,
         number: 0,

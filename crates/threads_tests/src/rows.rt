@@ -1,7 +1,7 @@
 //! What conversations say and where they wait for each other, a line each.
 
 use crate::cues::{cue_of, push_order};
-use crate::plays::{Core, fresh_core, play};
+use crate::plays::{Core, crashed, doubts_of, fresh_core, play};
 use crate::stages::Cue;
 use crate::talks::{Named, Talk, joined, pieces_of};
 use std::alloc::Global;
@@ -27,6 +27,9 @@ fn push_text(out: &mut Vec<u8>, text: &str) -> Option<()> {
     out.extend_from_slice(text.as_bytes()).ok()
 }
 
+// How many conversations have their numbers told; of more only how many there are of each end.
+const TOLD: usize = 100;
+
 // Appends the numbers of the conversations, from 1 on, behind what became of them, which is told once of those in a row.
 fn push_ends(alloc: Global, talks: &[Talk], out: &mut Vec<u8>) -> Option<()> {
     let mut before = "";
@@ -40,6 +43,13 @@ fn push_ends(alloc: Global, talks: &[Talk], out: &mut Vec<u8>) -> Option<()> {
         push_text(out, &format!(in alloc; " {number}").ok()?)?;
     }
     Some(())
+}
+
+// Appends how many of the conversations were answered.
+fn push_count(alloc: Global, talks: &[Talk], out: &mut Vec<u8>) -> Option<()> {
+    let answered = talks.iter().filter(|talk| talk.end() == "answered").count();
+    let all = talks.len();
+    push_text(out, &format!(in alloc; "; answered: {answered} of {all}").ok()?)
 }
 
 impl<'r, R: Threads + Wait + Clock + Sync> Rows<'r, R> {
@@ -76,7 +86,8 @@ impl<'r, R: Threads + Wait + Clock + Sync> Rows<'r, R> {
     }
 
     // `name` gives bytes a name, and `fresh` is a core over a fresh store. `talks` lays conversations, `cue` a cue, and `order` those of calls that
-    // are made one after the other. `serve` serves the conversations, and `crowd` such of which the last one comes until it is heard.
+    // are made one after the other. `serve` serves the conversations, and `crowd` such of which the last one comes until it is heard. `crash` opens
+    // what a crash leaves.
     fn answer(&mut self, verb: &str, rest: &str) -> Option<()> {
         match verb {
             "name" => self.lay_name(rest),
@@ -88,6 +99,7 @@ impl<'r, R: Threads + Wait + Clock + Sync> Rows<'r, R> {
             "cue" => self.cues.push(cue_of(rest)?).ok(),
             "order" => push_order(&mut self.cues, rest),
             "serve" | "crowd" => self.serve(verb == "crowd"),
+            "crash" => self.crash(rest.parse::<u64>().ok()?),
             _ => None,
         }
     }
@@ -112,6 +124,17 @@ impl<'r, R: Threads + Wait + Clock + Sync> Rows<'r, R> {
         Some(())
     }
 
+    // A crash, and how many units are in doubt in what is opened behind it.
+    fn crash(&mut self, pick: u64) -> Option<()> {
+        let core = crashed(self.alloc, self.core.take()?, pick)?;
+        let doubts = doubts_of(&core);
+        self.core = Some(core);
+        push_text(
+            &mut self.written,
+            &format!(in self.alloc; "  in doubt: {doubts}\n").ok()?,
+        )
+    }
+
     // Serves the conversations over the core, and tells what became of them. Then there are none.
     fn serve(&mut self, is_crowd: bool) -> Option<()> {
         let core = self.core.take()?;
@@ -122,7 +145,11 @@ impl<'r, R: Threads + Wait + Clock + Sync> Rows<'r, R> {
             "  late: {late}, idle: {is_idle}, failed: {is_failed}"
         ).ok()?;
         push_text(&mut self.written, &told)?;
-        push_ends(self.alloc, &self.talks, &mut self.written)?;
+        if self.talks.len() > TOLD {
+            push_count(self.alloc, &self.talks, &mut self.written)?;
+        } else {
+            push_ends(self.alloc, &self.talks, &mut self.written)?;
+        }
         push_text(&mut self.written, "\n")?;
         self.cues.clear();
         self.talks.clear();

@@ -1,9 +1,10 @@
 //! Conversations over streams in memory: what they say, and whether they are answered as they should be.
 
-use crate::stages::{Point, Stage};
+use crate::stages::{LIMIT, Point, Stage};
 use std::alloc::Global;
 use std::io::{self, Read, Write};
 use std::sync::atomic::{AtomicU64, Ordering};
+use std::thread::yield_now;
 
 /// What a conversation says and what it is to be answered; and what became of it, which each thread may look at.
 #[derive(Drop)]
@@ -38,11 +39,22 @@ fn push_pieces(
     Some(())
 }
 
-/// The bytes of these names, each of which one read gives.
+// A name, and how often it is meant: `NAME`, or `NAME*TIMES`.
+fn times_of(word: &str) -> Option<(&str, u64)> {
+    match word.split_once('*') {
+        Some((name, times)) => Some((name, times.parse::<u64>().ok()?)),
+        None => Some((word, 1)),
+    }
+}
+
+/// The bytes of these names, each of which one read gives; of `NAME*TIMES` so many reads do.
 pub fn pieces_of(alloc: Global, named: &[Named], names: &str) -> Option<Vec<Vec<u8>>> {
     let mut pieces = Vec::new(alloc);
-    for name in names.split_ascii_whitespace() {
-        push_pieces(alloc, &mut pieces, named, name)?;
+    for word in names.split_ascii_whitespace() {
+        let (name, times) = times_of(word)?;
+        for _ in 0..times {
+            push_pieces(alloc, &mut pieces, named, name)?;
+        }
     }
     Some(pieces)
 }
@@ -90,6 +102,16 @@ impl Talk {
     /// Whether it was read from at all.
     pub fn is_begun(&self) -> bool {
         self.begun.load(Ordering::SeqCst) > 0
+    }
+
+    /// Waits until it has ended, as long as is waited for anybody.
+    pub fn wait_for_end(&self) {
+        for _ in 0..LIMIT {
+            if self.closed.load(Ordering::SeqCst) > 0 {
+                return;
+            }
+            yield_now();
+        }
     }
 
     // Whether its one stream was closed, unread and unanswered.
