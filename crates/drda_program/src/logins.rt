@@ -13,6 +13,7 @@ use drda_node::Ready;
 use drda_server::{Log, Network, serve_file};
 use std::alloc::Global;
 use std::io::{self, ErrorKind, Read, Write};
+use std::net::Net;
 use std::sync::Wait;
 use std::thread::Threads;
 use std::time::Clock;
@@ -32,7 +33,7 @@ pub(crate) fn serve<T, F, N, L, W>(
     out: &mut W,
 ) -> Result<(), Fault>
 where
-    T: Threads + Wait + Clock + Sync,
+    T: Threads + Wait + Clock + Net + Sync,
     F: StoreFiles,
     N: Network,
     L: Log + Sync,

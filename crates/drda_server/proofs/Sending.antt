@@ -17,13 +17,34 @@ use Rattle.session_commands.proofs.settings.Settings.TheSendSync as settings_sen
 use Rattle.shared_node.proofs.Sending.{shared_sync}
 use Rattle.drda_server.proofs.longest.Longest.TheSendSync as longest_sends
 use Rattle.drda_server.specs.contracts.attending.Hall as hall
+use Rattle.drda_server.proofs.doors.Doors.TheSendSync as doors_sends
+use Rattle.drda_server.proofs.failure.Failure.TheSendSync as failure_sends
 
-pub hall_sync : (l : NamedLft) (D R G L : RattleType) (d : Ghosts D.Denot) → IsSend D → IsSync R → IsSync G → IsSync L → IsSync (hall.the_row l D R G L d)
-hall_sync l D R G L d sends runtime gate log =
+pub hall_sync : (l : NamedLft) (D R G L K : RattleType) (d : Ghosts D.Denot) → IsSend D → IsSync R → IsSync G → IsSync L → IsSend K → IsSync (hall.the_row l D R G L K d)
+hall_sync l D R G L K d sends runtime gate log handles =
     let shared = shared_sync D d sends in
-    declared_sync (hall.the_type l D R G L d) (
+    let doors = doors_sends.the_sync K handles in
+    declared_sync (hall.the_type l D R G L K d) (
       search (sendable, runtime),
-      (search (sendable, crosses) depth 20, (search (sendable, shared), (search (sendable, settings_sends.the_sync) depth 12, (search (sendable, gate), (search (sendable, log), (search (sendable, longest_sends.the_sync) depth 12, (search (sendable, longest_sends.the_sync) depth 12, tt))))))),
+      (
+        search (sendable, crosses) depth 20,
+        (
+          search (sendable, shared),
+          (
+            search (sendable, settings_sends.the_sync) depth 12,
+            (
+              search (sendable, gate),
+              (
+                search (sendable, log),
+                (
+                  search (sendable, longest_sends.the_sync) depth 12,
+                  (search (sendable, longest_sends.the_sync) depth 12, (search (sendable, failure_sends.the_sync) depth 12, (search (sendable, doors), (search (sendable, crosses) depth 12, (search (sendable, crosses) depth 12, tt))))),
+                ),
+              ),
+            ),
+          ),
+        ),
+      ),
     )
 
 pub peer_send : IsSend (option.the_row address.the_row)
@@ -33,3 +54,6 @@ peer_send = search (option_sends.the_send, address_sends.the_send)
 pub five_send : (name : List ℕ) (A B C D E : RattleType) → IsSend A → IsSend B → IsSend C → IsSend D → IsSend E → IsSend (TupleAt name (A ∷ B ∷ C ∷ D ∷ E ∷ []))
 five_send name A B C D E a b c d e =
     declared_send (type_at name (A ∷ B ∷ C ∷ D ∷ E ∷ [])) (as_row_send (row_field A) a, (as_row_send (row_field B) b, (as_row_send (row_field C) c, (as_row_send (row_field D) d, (as_row_send (row_field E) e, tt)))))
+
+pub one_send : (name : List ℕ) (A : RattleType) → IsSend A → IsSend (TupleAt name (A ∷ []))
+one_send name A a = declared_send (type_at name (A ∷ [])) (as_row_send (row_field A) a, tt)

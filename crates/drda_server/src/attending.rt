@@ -5,17 +5,19 @@ ghost use Rattle.shared_node.specs.Locked.{Retires, UnderLock};
 ghost use Rattle.drda_server.specs.Threads.{Attends};
 
 use crate::attended::Attended;
+use crate::doors::Doors;
+use crate::failure::Failure;
+use crate::guest::{Guest, unseen};
 use crate::log::Log;
 use crate::longest::Longest;
 use crate::notice::{Notice, Outcome};
 use crate::telling::TellingGate;
-use crate::watching::Watched;
 use conversation::Settings;
 use drda_disk::Disk;
 use shared_node::{Desk, Gate, Pass, Shared};
 use std::alloc::Global;
 use std::io::{Read, Write};
-use std::net::SocketAddr;
+use std::net::{OpenStream, SocketAddr};
 use std::snapshot::Snapshot;
 use std::sync::Wait;
 use std::time::Clock;
@@ -23,7 +25,7 @@ use stream_service::Served;
 
 /// What all threads share.
 #[derive(Clone, Copy)]
-pub(crate) struct Hall<'a, D: Disk, R: Wait, G: Gate, L: Log> {
+pub(crate) struct Hall<'a, D: Disk, R: Wait, G: Gate, L: Log, K> {
     pub(crate) rt: &'a R,
     pub(crate) alloc: Global,
     pub(crate) shared: &'a Shared<D>,
@@ -32,12 +34,25 @@ pub(crate) struct Hall<'a, D: Disk, R: Wait, G: Gate, L: Log> {
     pub(crate) log: &'a L,
     pub(crate) waits: &'a Longest,
     pub(crate) holds: &'a Longest,
+    pub(crate) failure: &'a Failure,
+    pub(crate) doors: &'a Doors<K>,
+    /// Within how many seconds a conversation must have opened the database.
+    pub(crate) login: u32,
+    /// With how many bytes of rows kept for its cursors a conversation opens no further one.
+    pub(crate) cursor_bytes: usize,
 }
 
 /// Attends to one conversation, whose stream these two are of. What it left unfinished is lost at its end, and its leave is
 /// given back.
-pub(crate) fn attend<D: Disk, R: Wait + Clock, G: Gate, L: Log, I: Read + Drop, O: Write + Drop>(
-    hall: &Hall<'_, D, R, G, L>,
+pub(crate) fn attend<
+    D: Disk,
+    R: Wait + Clock,
+    G: Gate,
+    L: Log,
+    I: Read + Drop,
+    O: Write + OpenStream + Drop,
+>(
+    hall: &Hall<'_, D, R, G, L, O>,
     pass: Pass,
     peer: Option<SocketAddr>,
     reader: I,
@@ -51,18 +66,33 @@ pub(crate) fn attend<D: Disk, R: Wait + Clock, G: Gate, L: Log, I: Read + Drop, 
         log: hall.log,
         waits: hall.waits,
         holds: hall.holds,
+        failure: hall.failure,
+        doors: hall.doors,
+    };
+    let place = pass.place();
+    let mut guest = Guest {
+        rt: hall.rt,
+        log: hall.log,
+        doors: hall.doors,
+        place,
+        conversation,
+        cursor_bytes: hall.cursor_bytes,
+        seen: unseen(),
     };
     let mut reader = reader;
-    let mut writer = Watched::new(writer, hall.log, conversation);
+    let mut writer = writer;
     let ended = Desk::new(hall.rt, hall.shared, &gate, pass).serve(
         hall.alloc,
         hall.settings,
         &mut reader,
         &mut writer,
+        &mut guest,
     );
+    hall.doors.end(hall.rt, place);
     let outcome = Outcome {
         served: ended.served,
-        is_logged_in: writer.is_logged_in(),
+        is_logged_in: guest.seen.is_checked,
+        refused: guest.seen.refused,
         calls: ended.pass.count(),
         waited: ended.longest_wait,
         held: ended.longest_hold,
@@ -72,13 +102,13 @@ pub(crate) fn attend<D: Disk, R: Wait + Clock, G: Gate, L: Log, I: Read + Drop, 
         peer,
         outcome,
     });
-    let writer = Snapshot::of(writer.inner());
+    let writer = Snapshot::of(&writer);
     retire(hall, ended.served, ended.pass, writer)
 }
 
 // Gives the pass of a conversation that was lost back.
 fn retire<D: Disk, R: Wait + Clock, G: Gate, L: Log, O>(
-    hall: &Hall<'_, D, R, G, L>,
+    hall: &Hall<'_, D, R, G, L, O>,
     served: Served,
     pass: Pass,
     writer: Snapshot<O>,

@@ -7,10 +7,11 @@ ghost use Rattle.drda_server.specs.Listening.{Listens, ServesStreams, port_line}
 ghost use Rattle.drda_server.specs.Serving.{ServesFile, seen, settings_of, surroundings};
 ghost use Rattle.store_files.specs.Stores.{IsOfDevice, RefusesName};
 
+use crate::failure::Failure;
 use crate::letting_in::LetIn;
 use crate::log::{Log, Switched};
 use crate::network::Network;
-use crate::threads::serve_streams;
+use crate::threads::{Rules, serve_streams};
 use command_line::{Login, ServeOptions};
 use conversation::{Settings, SettingsError};
 use drda_disk::Disk;
@@ -18,7 +19,7 @@ use durable_core::DurableCore;
 use shared_node::{OpenGate, Shared};
 use std::alloc::Global;
 use std::io::Write;
-use std::net::{Ipv4Addr, SocketAddr, SocketAddrV4};
+use std::net::{Ipv4Addr, Net, SocketAddr, SocketAddrV4};
 use std::sync::Wait;
 use std::thread::Threads;
 use std::time::Clock;
@@ -41,7 +42,7 @@ pub fn serve_file<R, F, N, L, W>(
     out: &mut W,
 ) -> Result<(), Fault>
 where
-    R: Threads + Wait + Clock + Sync,
+    R: Threads + Wait + Clock + Net + Sync,
     F: StoreFiles,
     N: Network,
     L: Log + Sync,
@@ -92,7 +93,7 @@ fn listen<R, D, N, L, W>(
     out: &mut W,
 ) -> Result<(), Fault>
 where
-    R: Threads + Wait + Clock + Sync,
+    R: Threads + Wait + Clock + Net + Sync,
     D: Disk + Send + Drop,
     N: Network,
     L: Log + Sync,
@@ -123,7 +124,7 @@ fn serve_all<R, D, N, L>(
     options: ServeOptions,
 ) -> Result<(), Fault>
 where
-    R: Threads + Wait + Clock + Sync,
+    R: Threads + Wait + Clock + Net + Sync,
     D: Disk + Send + Drop,
     N: Network,
     L: Log + Sync,
@@ -133,7 +134,13 @@ where
     ensures served { (result ≡ Err Fault.NoMemory) ⊎ ServesStreams N.calls D.is_modelled D.life N.Stream.remaining N.Writer.contents settings.now options listener.now }
 {
     let count = options.count.unwrap_or(u64::MAX);
-    let mut streams = LetIn::new(net, listener, options.idle, count);
+    let failure = Failure::new(options.ends_when_failed);
+    let rules = Rules {
+        login: options.login,
+        cursor_bytes: usize::try_from(options.cursor_bytes).unwrap_or(usize::MAX),
+        failure: &failure,
+    };
+    let mut streams = LetIn::new(net, listener, options.idle, count, &failure);
     let switched = Switched {
         log,
         is_on: options.is_logged,
@@ -145,6 +152,7 @@ where
         settings,
         &OpenGate,
         &switched,
+        rules,
         &mut streams,
     )?;
     if streams.has_failed() {

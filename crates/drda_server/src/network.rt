@@ -25,7 +25,7 @@ pub trait Network {
     type Stream: Read + Drop;
 
     /// The second handle of a stream, to be written on.
-    type Writer: Write + Drop;
+    type Writer: Write + OpenStream + Drop;
 
     /// What a call comes to.
     ghost calls: { NetworkCalls Self Self.Listener Self.Stream Self.Writer } = { any_network };
@@ -49,6 +49,10 @@ pub trait Network {
     fn limit(&mut self, stream: &Self::Stream, seconds: u32) -> io::Result<()>
         ensures { calls.limits self.old stream.now seconds (result_ok result) self.new };
 
+    /// From now on a write on the stream that has waited for so many seconds, without a byte that was taken, fails.
+    fn limit_writes(&mut self, stream: &Self::Stream, seconds: u32) -> io::Result<()>
+        ensures { calls.limits_writes self.old stream.now seconds (result_ok result) self.new };
+
     /// From now on small segments of what is written on the stream are sent at once, and none waits for more.
     fn hurry(&mut self, stream: &Self::Stream) -> io::Result<()>
         ensures { calls.hurries self.old stream.now (result_ok result) self.new };
@@ -56,6 +60,11 @@ pub trait Network {
     /// A second handle of a stream, to be written on.
     fn writer(&mut self, stream: &Self::Stream) -> io::Result<Self::Writer>
         ensures { calls.answers self.old stream.now (result_ok result) self.new };
+
+    /// A handle more of a stream, by which it can be ended from another thread; None where there is none to be had.
+    fn handle(&self, _stream: &Self::Stream) -> Option<Self::Writer> {
+        None
+    }
 
     /// Waits a moment, before a stream is let in again where that has failed.
     fn pause(&mut self);
@@ -118,6 +127,14 @@ impl<'a, R: Net + Clock> Network for SystemNetwork<'a, R> {
 
     fn limit(&mut self, stream: &R::Stream, seconds: u32) -> io::Result<()> {
         stream.set_read_timeout(Some(Duration::from_secs(u64::from(seconds))))
+    }
+
+    fn limit_writes(&mut self, stream: &R::Stream, seconds: u32) -> io::Result<()> {
+        stream.set_write_timeout(Some(Duration::from_secs(u64::from(seconds))))
+    }
+
+    fn handle(&self, stream: &R::Stream) -> Option<R::Stream> {
+        stream.try_clone().ok()
     }
 
     fn hurry(&mut self, stream: &R::Stream) -> io::Result<()> {

@@ -20,6 +20,22 @@ pub enum Notice {
     Refused {
         conversation: u64,
     },
+    /// A conversation has not opened the database in the time that it has, and its stream is ended.
+    Late {
+        conversation: u64,
+    },
+    /// A conversation has not opened the database, and its stream is ended since another one wants its place.
+    Ousted {
+        conversation: u64,
+    },
+    /// No thread could be made for a conversation: until it has ended, no other one is let in.
+    NoThread {
+        conversation: u64,
+    },
+    /// No thread could be made to keep watch: a conversation that never opens the database keeps its place.
+    NoWatch,
+    /// The device has failed, and serving ends.
+    EndsFailed,
     /// A conversation of this peer has ended.
     Ends {
         conversation: u64,
@@ -52,6 +68,8 @@ pub struct Outcome {
     pub served: Served,
     /// Whether its user and its password were right.
     pub is_logged_in: bool,
+    /// How many of its logins were refused.
+    pub refused: u64,
     /// How many of its calls are listed, its loss among them.
     pub calls: u64,
     /// For how many microseconds one of them waited for the lock at most.
@@ -75,6 +93,11 @@ impl fmt::Display for Notice {
                 f,
                 "drdad: conversation {conversation}: user or password refused"
             ),
+            Notice::Late { .. }
+            | Notice::Ousted { .. }
+            | Notice::NoThread { .. }
+            | Notice::NoWatch
+            | Notice::EndsFailed => write_trouble(f, *self),
             Notice::Ends {
                 conversation,
                 peer,
@@ -107,6 +130,30 @@ impl fmt::Display for Notice {
     }
 }
 
+// What keeps conversations from being served.
+fn write_trouble<W: fmt::Write>(f: &mut fmt::Formatter<W>, notice: Notice) -> fmt::Result {
+    match notice {
+        Notice::Late { conversation } => write!(
+            f,
+            "drdad: conversation {conversation} has not opened the database in time, ended"
+        ),
+        Notice::Ousted { conversation } => write!(
+            f,
+            "drdad: conversation {conversation} has not opened the database, its place is given to another"
+        ),
+        Notice::NoThread { conversation } => write!(
+            f,
+            "drdad: no thread for conversation {conversation}, until it ends no other is let in"
+        ),
+        Notice::NoWatch => write!(
+            f,
+            "drdad: no thread to keep watch, --login and --end-when-failed are not kept"
+        ),
+        Notice::EndsFailed => write!(f, "drdad: the device has failed, serving ends"),
+        _ => Ok(()),
+    }
+}
+
 fn write_peer<W: fmt::Write>(f: &mut fmt::Formatter<W>, peer: Option<SocketAddr>) -> fmt::Result {
     match peer {
         Some(peer) => write!(f, "{peer}"),
@@ -120,7 +167,12 @@ fn write_outcome<W: fmt::Write>(f: &mut fmt::Formatter<W>, outcome: Outcome) -> 
     write!(
         f,
         ": {cause}, {login}, calls {calls}, waited at most {waited} us, lock held at most {held} us"
-    )
+    )?;
+    if outcome.refused > 0 {
+        let refused = outcome.refused;
+        write!(f, ", logins refused {refused}")?;
+    }
+    Ok(())
 }
 
 // What ended a conversation.

@@ -1,5 +1,7 @@
 //! What calls at the lock tell.
 
+use crate::doors::Doors;
+use crate::failure::Failure;
 use crate::log::Log;
 use crate::longest::Longest;
 use crate::notice::Notice;
@@ -7,14 +9,16 @@ use shared_node::{Gate, Turn};
 
 /// A gate whose turns are told.
 #[derive(Clone, Copy)]
-pub(crate) struct TellingGate<'a, G, L> {
+pub(crate) struct TellingGate<'a, G, L, K> {
     pub(crate) gate: &'a G,
     pub(crate) log: &'a L,
     pub(crate) waits: &'a Longest,
     pub(crate) holds: &'a Longest,
+    pub(crate) failure: &'a Failure,
+    pub(crate) doors: &'a Doors<K>,
 }
 
-impl<G: Gate, L: Log> Gate for TellingGate<'_, G, L> {
+impl<G: Gate, L: Log, K> Gate for TellingGate<'_, G, L, K> {
     fn turn(&self, conversation: u64, n: u64) {
         self.gate.turn(conversation, n);
     }
@@ -22,6 +26,9 @@ impl<G: Gate, L: Log> Gate for TellingGate<'_, G, L> {
     fn after(&self, conversation: u64, turn: &Turn) {
         self.gate.after(conversation, turn);
         tell_turn(self.log, turn);
+        if turn.has_failed && self.failure.note() {
+            self.doors.wake();
+        }
         if self.waits.rises_to(turn.waited) {
             self.log.tell(Notice::LongestWait {
                 conversation,

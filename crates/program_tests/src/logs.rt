@@ -72,7 +72,7 @@ fn timeless(notice: Notice) -> Option<Notice> {
 }
 
 // What a log may be told, each kind of it at least once.
-fn notices() -> [Notice; 10] {
+fn notices() -> [Notice; 16] {
     let peer = Some(address(51234));
     [
         Notice::Begins {
@@ -92,6 +92,12 @@ fn notices() -> [Notice; 10] {
             room: 2_048,
         },
         Notice::DeviceFailed,
+        Notice::EndsFailed,
+        Notice::Late { conversation: 6 },
+        Notice::Ousted { conversation: 7 },
+        Notice::NoThread { conversation: 8 },
+        Notice::NoWatch,
+        ends_refused(peer),
         Notice::LongestWait {
             conversation: 3,
             micros: 1_000,
@@ -119,9 +125,25 @@ fn ends(peer: Option<SocketAddr>) -> Notice {
         outcome: Outcome {
             served: Served::NoMemory,
             is_logged_in: true,
+            refused: 0,
             calls: 6,
             waited: 7,
             held: 8,
+        },
+    }
+}
+
+fn ends_refused(peer: Option<SocketAddr>) -> Notice {
+    Notice::Ends {
+        conversation: 9,
+        peer,
+        outcome: Outcome {
+            served: Served::Done,
+            is_logged_in: false,
+            refused: 4,
+            calls: 1,
+            waited: 0,
+            held: 0,
         },
     }
 }

@@ -11,7 +11,7 @@ use durable_core::{DurableCore, open};
 use half_store::format;
 use std::alloc::{AllocError, Global};
 use std::io::{Read, Write};
-use stream_service::{Served, serve};
+use stream_service::{OpenHouse, Served, serve};
 
 /// The least store.
 const TWO_MIB: usize = 2_097_152;
@@ -59,5 +59,12 @@ pub fn serve_over<D: Disk, R: Read, W: Write>(
         return None;
     };
     let mut asker = Asker { core };
-    Some(serve(alloc, &mut front, reader, writer, &mut asker))
+    Some(serve(
+        alloc,
+        &mut front,
+        reader,
+        writer,
+        &mut asker,
+        &mut OpenHouse,
+    ))
 }

@@ -4,11 +4,12 @@ use crate::stages::{Cue, LIMIT, Stage};
 use crate::talks::{Checker, Talk, Tape};
 use conversation::Settings;
 use drda_disk::MemDisk;
-use drda_program::{Silent, Streams, serve_streams};
+use drda_program::{Failure, Rules, Silent, Streams, serve_streams};
 use durable_core::{DurableCore, open};
 use shared_node::{Book, Shared};
 use std::alloc::Global;
 use std::marker::Sync;
+use std::net::Net;
 use std::sync::Wait;
 use std::thread::{Threads, yield_now};
 use std::time::Clock;
@@ -76,7 +77,7 @@ impl<'a> Streams for Callers<'a> {
 
 /// Serves these conversations over a core, which is handed back; they wait for each other by these cues. Where
 /// `is_crowd`, the last one comes again and again, until it is heard. None without memory.
-pub fn play<R: Threads + Wait + Clock + Sync>(
+pub fn play<R: Threads + Wait + Clock + Net + Sync>(
     rt: &R,
     alloc: Global,
     core: Core,
@@ -107,7 +108,7 @@ pub fn play<R: Threads + Wait + Clock + Sync>(
 
 // Serves the conversations of these callers over a core, for ana with the password pw. The book that is left, and whether all
 // leave came back to it. None without memory.
-fn serve<R: Threads + Wait + Clock + Sync>(
+fn serve<R: Threads + Wait + Clock + Net + Sync>(
     rt: &R,
     alloc: Global,
     core: Core,
@@ -119,7 +120,16 @@ fn serve<R: Threads + Wait + Clock + Sync>(
         Err(_) => return None,
     };
     let settings = Settings::new(alloc, "ana", "pw", "SHOP").ok()?;
-    serve_streams(rt, alloc, &shared, &settings, stage, &Silent, callers).ok()?;
+    let failure = Failure::new(false);
+    let rules = Rules {
+        login: 3_600,
+        cursor_bytes: usize::MAX,
+        failure: &failure,
+    };
+    serve_streams(
+        rt, alloc, &shared, &settings, stage, &Silent, rules, callers,
+    )
+    .ok()?;
     match shared.close(Vec::new(alloc)) {
         Ok(book) => Some((book, true)),
         Err(book) => Some((book, false)),

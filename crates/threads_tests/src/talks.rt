@@ -3,6 +3,7 @@
 use crate::stages::{Point, Stage};
 use std::alloc::Global;
 use std::io::{self, Read, Write};
+use std::net::OpenStream;
 use std::sync::atomic::{AtomicU64, Ordering};
 
 /// What a conversation says and what it is to be answered; and what became of it, which each thread may look at.
@@ -176,6 +177,9 @@ impl Checker<'_> {
         }
     }
 }
+
+// It can't be ended from elsewhere.
+impl OpenStream for Checker<'_> {}
 
 impl Write for Checker<'_> {
     fn write(&mut self, bytes: &[u8]) -> io::Result<usize> {
