@@ -18,6 +18,7 @@ use Rattle.shared_node.proofs.Sending.{shared_sync}
 use Rattle.drda_server.proofs.longest.Longest.TheSendSync as longest_sends
 use Rattle.drda_server.specs.contracts.attending.Hall as hall
 use Rattle.drda_server.proofs.doors.Doors.TheSendSync as doors_sends
+use Rattle.drda_server.proofs.fullness.Fullness.TheSendSync as fullness_sends
 use Rattle.drda_server.proofs.failure.Failure.TheSendSync as failure_sends
 
 pub hall_sync : (l : NamedLft) (D R G L K : RattleType) (d : Ghosts D.Denot) → IsSend D → IsSync R → IsSync G → IsSync L → IsSend K → IsSync (hall.the_row l D R G L K d)
@@ -38,7 +39,7 @@ hall_sync l D R G L K d sends runtime gate log handles =
                 search (sendable, log),
                 (
                   search (sendable, longest_sends.the_sync) depth 12,
-                  (search (sendable, longest_sends.the_sync) depth 12, (search (sendable, failure_sends.the_sync) depth 12, (search (sendable, doors), (search (sendable, crosses) depth 12, (search (sendable, crosses) depth 12, tt))))),
+                  (search (sendable, longest_sends.the_sync) depth 12, (search (sendable, fullness_sends.the_sync) depth 12, (search (sendable, failure_sends.the_sync) depth 12, (search (sendable, doors), (search (sendable, crosses) depth 12, (search (sendable, crosses) depth 12, tt)))))),
                 ),
               ),
             ),

@@ -7,6 +7,7 @@ ghost use Rattle.drda_server.specs.Threads.{Attends};
 use crate::attended::Attended;
 use crate::doors::Doors;
 use crate::failure::Failure;
+use crate::fullness::Fullness;
 use crate::guest::{Guest, unseen};
 use crate::log::Log;
 use crate::longest::Longest;
@@ -34,6 +35,7 @@ pub(crate) struct Hall<'a, D: Disk, R: Wait, G: Gate, L: Log, K> {
     pub(crate) log: &'a L,
     pub(crate) waits: &'a Longest,
     pub(crate) holds: &'a Longest,
+    pub(crate) fullness: &'a Fullness,
     pub(crate) failure: &'a Failure,
     pub(crate) doors: &'a Doors<K>,
     /// Within how many seconds a conversation must have opened the database.
@@ -62,10 +64,12 @@ pub(crate) fn attend<
 {
     let conversation = pass.conversation();
     let gate = TellingGate {
+        rt: hall.rt,
         gate: hall.gate,
         log: hall.log,
         waits: hall.waits,
         holds: hall.holds,
+        fullness: hall.fullness,
         failure: hall.failure,
         doors: hall.doors,
     };

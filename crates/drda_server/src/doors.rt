@@ -1,7 +1,8 @@
 //! The streams of conversations, to be ended from another thread.
 
+use crate::failure::Failure;
 use std::alloc::{AllocError, Global};
-use std::net::{Net, OpenStream, Shutdown};
+use std::net::{Net, OpenStream, Shutdown, SocketAddr};
 use std::sync::{Condvar, CondvarTimeouts, Mutex, Wait};
 use std::time::{Clock, Duration, Instant};
 
@@ -28,6 +29,8 @@ struct Door<K> {
 #[derive(Drop)]
 struct House<K> {
     doors: Vec<Option<Door<K>>>,
+    // Where streams are let in, once one was.
+    address: Option<SocketAddr>,
     is_over: bool,
 }
 
@@ -85,6 +88,7 @@ impl<K: OpenStream> Doors<K> {
         Ok(Doors {
             house: Mutex::new(House {
                 doors,
+                address: None,
                 is_over: false,
             }),
             changed: Condvar::new(),
@@ -100,6 +104,11 @@ impl<K: OpenStream> Doors<K> {
         handle: Option<K>,
     ) {
         let mut house = self.house.lock(rt);
+        if let Some(known) = &handle {
+            if let Ok(address) = known.local_addr() {
+                house.address = Some(address);
+            }
+        }
         if let Some(slot) = house.doors.get_mut(place) {
             *slot = Some(Door {
                 handle,
@@ -163,36 +172,31 @@ impl<K: OpenStream> Doors<K> {
         }
     }
 
-    /// Waits until a conversation has not opened the database for so many seconds, or for a moment; ends its stream.
-    pub(crate) fn watch<R: Wait + Clock>(&self, rt: &R, seconds: u32) -> Found {
+    /// Ends the stream of a conversation that has not opened the database for so many seconds; where there is none waits until
+    /// something changes, or for a moment. What ends serving is looked at where nobody can change it.
+    pub(crate) fn watch<R: Wait + Clock>(&self, rt: &R, seconds: u32, failure: &Failure) -> Found {
         let limit = Duration::from_secs(u64::from(seconds));
-        let house = self.house.lock(rt);
+        let mut house = self.house.lock(rt);
         if house.is_over {
             return Found::Over;
         }
-        let mut house = if has_strangers(&house.doors) {
-            self.changed
-                .wait_timeout(rt, house, Duration::from_millis(MOMENT))
-                .0
+        if let Some(conversation) = close_late(rt, &mut house.doors, limit) {
+            return Found::Late(conversation);
+        }
+        if failure.ends_serving() {
+            return Found::Nothing;
+        }
+        if has_strangers(&house.doors) {
+            let _ = self
+                .changed
+                .wait_timeout(rt, house, Duration::from_millis(MOMENT));
         } else {
-            self.changed.wait(rt, house)
-        };
-        if house.is_over {
-            return Found::Over;
-        }
-        for slot in house.doors.iter_mut() {
-            if let Some(door) = slot {
-                if door.is_stranger(rt, limit) {
-                    door.close();
-                    return Found::Late(door.conversation);
-                }
-            }
+            let _house = self.changed.wait(rt, house);
         }
         Found::Nothing
     }
 
-    /// Ends what is read from each stream; or each stream, `wholly`. One of them is knocked at, so that who waits for the next stream
-    /// is given one. Then waits for a moment.
+    /// Ends what is read from each stream; or each stream, `wholly`. Who waits for the next stream is given one. Then waits for a moment.
     pub(crate) fn end_all<R: Wait + Clock + Net>(&self, rt: &R, wholly: bool) -> Found {
         let house = self.house.lock(rt);
         if house.is_over {
@@ -206,17 +210,20 @@ impl<K: OpenStream> Doors<K> {
         for slot in house.doors.as_slice() {
             if let Some(door) = slot {
                 door.shut(how);
-                knock(rt, door);
             }
         }
-        let (_house, _) = self
+        if let Some(address) = house.address {
+            let _ = rt.connect(address);
+        }
+        let _ = self
             .changed
             .wait_timeout(rt, house, Duration::from_millis(MOMENT));
         Found::Nothing
     }
 
     /// Whoever keeps watch looks at once.
-    pub(crate) fn wake(&self) {
+    pub(crate) fn wake<R: Wait>(&self, rt: &R) {
+        drop(self.house.lock(rt));
         self.changed.notify_all();
     }
 
@@ -239,11 +246,19 @@ fn has_strangers<K>(doors: &[Option<Door<K>>]) -> bool {
     false
 }
 
-// Connects to where a stream was let in, and lets go.
-fn knock<R: Net, K: OpenStream>(rt: &R, door: &Door<K>) {
-    if let Some(handle) = &door.handle {
-        if let Ok(address) = handle.local_addr() {
-            let _ = rt.connect(address);
+// Ends the stream of the first one that has not opened the database for so long, and answers its number.
+fn close_late<R: Clock, K: OpenStream>(
+    rt: &R,
+    doors: &mut [Option<Door<K>>],
+    limit: Duration,
+) -> Option<u64> {
+    for slot in doors {
+        if let Some(door) = slot {
+            if door.is_stranger(rt, limit) {
+                door.close();
+                return Some(door.conversation);
+            }
         }
     }
+    None
 }

@@ -67,6 +67,9 @@ impl<N: Network> Streams for LetIn<'_, N> {
 
     fn next(&mut self) -> Option<(N::Stream, N::Writer)> {
         for _ in 0..u64::MAX {
+            if self.failure.ends_serving() {
+                self.end();
+            }
             let left = self.left.checked_sub(1)?;
             match let_in(self.net, self.listener, self.idle) {
                 Ok(_) if self.failure.ends_serving() => self.end(),

@@ -7,6 +7,7 @@ mod attended;
 mod attending;
 mod doors;
 mod failure;
+mod fullness;
 mod guest;
 mod handles;
 mod letting_in;
@@ -23,7 +24,7 @@ pub use failure::Failure;
 pub use listening::serve_file;
 pub use log::{ErrorLog, Log, Silent};
 pub use network::{Network, SystemNetwork};
-pub use notice::{Notice, Outcome};
+pub use notice::{Name, Notice, Outcome};
 // What ended a conversation.
 pub use stream_service::Served;
 pub use threads::{Rules, serve_streams};

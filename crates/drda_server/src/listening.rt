@@ -11,6 +11,7 @@ use crate::failure::Failure;
 use crate::letting_in::LetIn;
 use crate::log::{Log, Switched};
 use crate::network::Network;
+use crate::notice::{Name, Notice};
 use crate::threads::{Rules, serve_streams};
 use command_line::{Login, ServeOptions};
 use conversation::{Settings, SettingsError};
@@ -55,12 +56,30 @@ where
 {
     let core = open_file(alloc, files, path)?;
     let settings = settings_for(alloc, &core, login)?;
+    let opened = opened(&core);
     let shared = match Shared::new(alloc, core) {
         Ok(shared) => shared,
         Err(_) => return Err(Fault::NoMemory),
     };
+    if options.is_logged {
+        log.tell(opened);
+    }
     listen(rt, alloc, &shared, &settings, net, log, port, options, out)?;
     end_of(alloc, shared)
+}
+
+// What is told of a store that is about to be served.
+fn opened<D: Disk>(core: &DurableCore<D>) -> Notice {
+    let mut left = core.in_doubt();
+    let mut doubts = 0u64;
+    while let Some(_) = left.next() {
+        doubts = doubts.saturating_add(1);
+    }
+    Notice::Opened {
+        name: Name::of(core.name()),
+        room: core.room(),
+        doubts,
+    }
 }
 
 // What a server of this login starts its conversations with, whose database has the name of its store. A name

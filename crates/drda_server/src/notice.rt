@@ -20,6 +20,21 @@ pub enum Notice {
     Refused {
         conversation: u64,
     },
+    /// Conversations over the database of this name are about to be served, with so many bytes left for records and so many units in
+    /// doubt.
+    Opened {
+        name: Name,
+        room: usize,
+        doubts: u64,
+    },
+    /// A record of a conversation, which takes and holds so many bytes, found no room in those that are left; behind a checkpoint, or
+    /// since none could be written.
+    Full {
+        conversation: u64,
+        need: u64,
+        room: u64,
+        is_written: bool,
+    },
     /// A conversation has not opened the database in the time that it has, and its stream is ended.
     Late {
         conversation: u64,
@@ -61,6 +76,35 @@ pub enum Notice {
     },
 }
 
+/// The name of a database, of 18 bytes at most.
+#[derive(Clone, Copy, Debug, PartialEq, Eq)]
+pub struct Name {
+    bytes: [u8; 18],
+    length: usize,
+}
+
+impl Name {
+    /// The name that a text is, or what stands in front of its 19th byte.
+    pub(crate) fn of(text: &str) -> Name {
+        let mut bytes = [0u8; 18];
+        let mut length = 0usize;
+        for (place, byte) in bytes.iter_mut().zip(text.as_bytes()) {
+            *place = *byte;
+            length = length.saturating_add(1);
+        }
+        Name { bytes, length }
+    }
+}
+
+impl fmt::Display for Name {
+    fn fmt<W: fmt::Write>(&self, f: &mut fmt::Formatter<W>) -> fmt::Result {
+        for byte in self.bytes.as_slice().iter().take(self.length) {
+            f.write_char(char::from(*byte))?;
+        }
+        Ok(())
+    }
+}
+
 /// How a conversation has ended.
 #[derive(Clone, Copy, Debug, PartialEq, Eq)]
 pub struct Outcome {
@@ -93,7 +137,12 @@ impl fmt::Display for Notice {
                 f,
                 "drdad: conversation {conversation}: user or password refused"
             ),
-            Notice::Late { .. }
+            Notice::Opened { name, room, doubts } => write!(
+                f,
+                "drdad: database {name}, room {room}, in doubt {doubts}"
+            ),
+            Notice::Full { .. }
+            | Notice::Late { .. }
             | Notice::Ousted { .. }
             | Notice::NoThread { .. }
             | Notice::NoWatch
@@ -133,6 +182,16 @@ impl fmt::Display for Notice {
 // What keeps conversations from being served.
 fn write_trouble<W: fmt::Write>(f: &mut fmt::Formatter<W>, notice: Notice) -> fmt::Result {
     match notice {
+        Notice::Full {
+            conversation,
+            need,
+            room,
+            is_written,
+        } => write!(
+            f,
+            "drdad: conversation {conversation}: no room for {need} bytes, {room} are left: {}",
+            behind(is_written)
+        ),
         Notice::Late { conversation } => write!(
             f,
             "drdad: conversation {conversation} has not opened the database in time, ended"
@@ -173,6 +232,15 @@ fn write_outcome<W: fmt::Write>(f: &mut fmt::Formatter<W>, outcome: Outcome) -> 
         write!(f, ", logins refused {refused}")?;
     }
     Ok(())
+}
+
+// Which of both is full.
+fn behind(is_written: bool) -> &'static str {
+    if is_written {
+        "behind a checkpoint, smaller units go through"
+    } else {
+        "no checkpoint makes more"
+    }
 }
 
 // What ended a conversation.

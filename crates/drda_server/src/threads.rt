@@ -9,6 +9,7 @@ use crate::attendance::Attendance;
 use crate::attending::{Hall, attend};
 use crate::doors::{Doors, Found};
 use crate::failure::Failure;
+use crate::fullness::Fullness;
 use crate::handles::{join_all, join_at, no_threads, put_at};
 use crate::log::Log;
 use crate::longest::Longest;
@@ -86,7 +87,7 @@ fn keep_watch<D: Disk, R: Threads + Wait + Clock + Net, G: Gate, L: Log, K: Open
             turns = turns.saturating_add(1);
             hall.doors.end_all(hall.rt, turns > GENTLE)
         } else {
-            hall.doors.watch(hall.rt, hall.login)
+            hall.doors.watch(hall.rt, hall.login, hall.failure)
         };
         match found {
             Found::Nothing => {}
@@ -132,7 +133,7 @@ where
     S::Writer: Send,
     ensures { IfOk result (λ _. ServesAll (Unit {0}) (IsAttended D.is_modelled D.life S.Reader.remaining S.Writer.contents settings.now) S.gives streams.old) }
 {
-    let (waits, holds) = (Longest::new(), Longest::new());
+    let (waits, holds, fullness) = (Longest::new(), Longest::new(), Fullness::new());
     let doors = Doors::new(alloc)?;
     let hall = Hall {
         rt,
@@ -143,6 +144,7 @@ where
         log,
         waits: &waits,
         holds: &holds,
+        fullness: &fullness,
         failure: rules.failure,
         doors: &doors,
         login: rules.login,
@@ -157,7 +159,7 @@ fn begin<D: Disk, R: Wait + Clock, G: Gate, L: Log, K: OpenStream>(hall: &Hall<'
     tell_turn(hall.log, &turn);
     if turn.has_failed {
         hall.failure.note();
-        hall.doors.wake();
+        hall.doors.wake(hall.rt);
     }
 }
 

@@ -14,4 +14,4 @@ pub use core_history::{Acted, Book, CallList, Count, Left, Pass, Wish, Wished};
 pub use desk::{Desk, Ended};
 pub use gate::{Gate, OpenGate};
 pub use shared::Shared;
-pub use turn::Turn;
+pub use turn::{Full, Turn};
