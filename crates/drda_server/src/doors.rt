@@ -78,7 +78,7 @@ impl<K: OpenStream> Door<K> {
     }
 }
 
-impl<K: OpenStream> Doors<K> {
+impl<K: OpenStream + Drop> Doors<K> {
     /// No stream. AllocError where there is no memory for 64.
     pub(crate) fn new(alloc: Global) -> Result<Doors<K>, AllocError> {
         let mut doors = Vec::new(alloc);
@@ -247,7 +247,7 @@ fn has_strangers<K>(doors: &[Option<Door<K>>]) -> bool {
 }
 
 // Ends the stream of the first one that has not opened the database for so long, and answers its number.
-fn close_late<R: Clock, K: OpenStream>(
+fn close_late<R: Clock, K: OpenStream + Drop>(
     rt: &R,
     doors: &mut [Option<Door<K>>],
     limit: Duration,

@@ -39,7 +39,7 @@ pub(crate) fn unseen() -> Access {
     }
 }
 
-impl<R: Wait + Clock, L: Log, K: OpenStream> Host for Guest<'_, R, L, K> {
+impl<R: Wait + Clock, L: Log, K: OpenStream + Drop> Host for Guest<'_, R, L, K> {
     fn cursor_bytes(&self) -> usize {
         self.cursor_bytes
     }
@@ -63,7 +63,7 @@ impl<R: Wait + Clock, L: Log, K: OpenStream> Host for Guest<'_, R, L, K> {
     }
 }
 
-impl<R: Wait + Clock, L: Log, K: OpenStream> Guest<'_, R, L, K> {
+impl<R: Wait + Clock, L: Log, K: OpenStream + Drop> Guest<'_, R, L, K> {
     // Waits for a second, or until the stream was ended.
     fn wait(&self) {
         for _ in 0..MOMENTS {

@@ -23,7 +23,7 @@ pub(crate) struct TellingGate<'a, R, G, L, K> {
     pub(crate) doors: &'a Doors<K>,
 }
 
-impl<R: Wait, G: Gate, L: Log, K: OpenStream> Gate for TellingGate<'_, R, G, L, K> {
+impl<R: Wait, G: Gate, L: Log, K: OpenStream + Drop> Gate for TellingGate<'_, R, G, L, K> {
     fn turn(&self, conversation: u64, n: u64) {
         self.gate.turn(conversation, n);
     }

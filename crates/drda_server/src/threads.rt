@@ -34,7 +34,7 @@ const MOMENT: u64 = 10;
 const GENTLE: u64 = 2;
 
 // Leave for a conversation of a stream of this peer, where there is any. The stream can be ended by the handle.
-fn welcome<D: Disk, R: Wait + Clock, G: Gate, L: Log, K: OpenStream>(
+fn welcome<D: Disk, R: Wait + Clock, G: Gate, L: Log, K: OpenStream + Drop>(
     hall: &Hall<'_, D, R, G, L, K>,
     peer: Option<SocketAddr>,
     handle: Option<K>,
@@ -54,7 +54,7 @@ fn welcome<D: Disk, R: Wait + Clock, G: Gate, L: Log, K: OpenStream>(
 
 // Leave for one conversation more. Where there is none, that which came first of those that have not opened the database for a
 // second is ended, and its place is waited for.
-fn admit<D: Disk, R: Wait + Clock, G: Gate, L: Log, K: OpenStream>(
+fn admit<D: Disk, R: Wait + Clock, G: Gate, L: Log, K: OpenStream + Drop>(
     hall: &Hall<'_, D, R, G, L, K>,
 ) -> Option<Pass>
     ensures { IfSome result (λ pass. pass.place < 64) }
@@ -75,7 +75,7 @@ fn admit<D: Disk, R: Wait + Clock, G: Gate, L: Log, K: OpenStream>(
 
 // Ends the streams that keep a place without opening the database for too long, and all of them once the device has failed and that
 // ends serving; until serving is over.
-fn keep_watch<D: Disk, R: Threads + Wait + Clock + Net, G: Gate, L: Log, K: OpenStream>(
+fn keep_watch<D: Disk, R: Threads + Wait + Clock + Net, G: Gate, L: Log, K: OpenStream + Drop>(
     hall: &Hall<'_, D, R, G, L, K>,
 ) {
     let mut turns = 0u64;
@@ -154,7 +154,7 @@ where
 }
 
 // A checkpoint is considered, before anything is served.
-fn begin<D: Disk, R: Wait + Clock, G: Gate, L: Log, K: OpenStream>(hall: &Hall<'_, D, R, G, L, K>) {
+fn begin<D: Disk, R: Wait + Clock, G: Gate, L: Log, K: OpenStream + Drop>(hall: &Hall<'_, D, R, G, L, K>) {
     let turn = hall.shared.consider_checkpoint(hall.rt);
     tell_turn(hall.log, &turn);
     if turn.has_failed {
