@@ -1,4 +1,4 @@
-//! How far a conversation has come towards the database.
+//! The way to the database.
 
 ghost use Rattle.std.specs.Prelude.{◌≡◌};
 ghost use Rattle.conversation.specs.Access as spec;
@@ -46,9 +46,5 @@ pub(crate) fn asks_check(verdict: &Result<Accepted<'_>, Refusal>) -> bool {
 
 /// How many checks have failed, behind a command that asked for one or not and left this stage.
 pub(crate) fn refused_behind(refused: u64, asked: bool, stage: Stage) -> u64 {
-    if asked && !is_checked(stage) {
-        refused.saturating_add(1)
-    } else {
-        refused
-    }
+    refused.saturating_add(u64::from(asked && !is_checked(stage)))
 }

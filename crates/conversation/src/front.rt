@@ -79,7 +79,7 @@ impl Front {
         ensures { self.new ≡ self.old }
     {
         self.budget = budget;
-        self.state.cursors.keep_within(budget.cursor_bytes);
+        self.state.cursors.most = budget.cursor_bytes;
     }
 
     /// Begins anew, with the same settings: what came, what was agreed on and what was kept for its

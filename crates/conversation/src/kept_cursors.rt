@@ -17,7 +17,7 @@ struct KeptCursor {
 /// speaks of it: what it refuses is refused as memory is.
 #[derive(Drop)]
 pub(crate) struct KeptCursors {
-    most: usize,
+    pub(crate) most: usize,
     cursors: Vec<KeptCursor>,
     // The section whose cursor is being opened, if one is.
     section: Vec<u8>,
@@ -35,11 +35,6 @@ impl KeptCursors {
         }
     }
 
-    /// From now on they may keep so many bytes.
-    pub(crate) fn keep_within(&mut self, most: usize) {
-        self.most = most;
-    }
-
     /// Lets a command be done. AllocError where it would open a cursor, and those that are open keep as much as they may already.
     pub(crate) fn admit(
         &mut self,
@@ -54,9 +49,8 @@ impl KeptCursors {
             return Err(AllocError);
         }
         self.section.clear();
-        if let Some(name) = accepted.section() {
-            self.section.extend_from_slice(name)?;
-        }
+        self.section
+            .extend_from_slice(accepted.section().unwrap_or(&[]))?;
         self.cursors.reserve(1)?;
         Ok(())
     }
@@ -66,9 +60,8 @@ impl KeptCursors {
         if !self.is_opening {
             return;
         }
-        match statements.sections.next_block(&self.section, None, None) {
-            Ok(block) => self.put(alloc, bytes_of(block.rows)),
-            Err(_) => {}
+        if let Ok(block) = statements.sections.next_block(&self.section, None, None) {
+            self.put(alloc, bytes_of(block.rows));
         }
     }
 
@@ -76,12 +69,9 @@ impl KeptCursors {
     fn bytes(&self, statements: &Statements) -> usize {
         let mut sum = 0usize;
         for kept in self.cursors.as_slice() {
-            if statements
-                .sections
-                .next_block(&kept.section, None, None)
-                .is_ok()
-            {
-                sum = sum.saturating_add(kept.bytes);
+            match statements.sections.next_block(&kept.section, None, None) {
+                Ok(_) => sum = sum.saturating_add(kept.bytes),
+                Err(_) => {}
             }
         }
         sum

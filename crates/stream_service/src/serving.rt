@@ -170,7 +170,7 @@ fn most_gathered(access: Access) -> usize {
 }
 
 // Shows the host how far a conversation has come, where it is answered something.
-fn show<H: Host>(access: Access, replies: &[u8], host: &mut H) {
+fn show<H: Host>(access: Access, replies: &Vec<u8>, host: &mut H) {
     if !replies.is_empty() {
         host.look(access);
     }
