@@ -7,7 +7,7 @@ use denote.Struct.Field.{row_field}
 use denote.Struct.Tuple.{TupleAt, type_at}
 use denote.Param.Send.{IsSend, IsSync, sendable}
 use denote.Param.SendFields.{as_row_send, declared_send, declared_sync}
-use Rattle.std.proofs.Crossing.{crosses}
+use Rattle.std.proofs.Crossing.{Vec-send, crosses}
 use Rattle.std.specs.contracts.option.Option as option
 use Rattle.std.proofs.option.Option.TheSendSync as option_sends
 use Rattle.std.specs.contracts.net.socket_addr.SocketAddr as address
@@ -17,14 +17,31 @@ use Rattle.session_commands.proofs.settings.Settings.TheSendSync as settings_sen
 use Rattle.shared_node.proofs.Sending.{shared_sync}
 use Rattle.drda_server.proofs.longest.Longest.TheSendSync as longest_sends
 use Rattle.drda_server.specs.contracts.attending.Hall as hall
-use Rattle.drda_server.proofs.doors.Doors.TheSendSync as doors_sends
+use Rattle.drda_server.specs.contracts.doors.Door as door
+use Rattle.drda_server.specs.contracts.doors.House as house
+use Rattle.drda_server.specs.contracts.doors.Doors as doors
+use Rattle.std.proofs.time.Instant.TheSendSync as instant_sends
 use Rattle.drda_server.proofs.fullness.Fullness.TheSendSync as fullness_sends
 use Rattle.drda_server.proofs.failure.Failure.TheSendSync as failure_sends
+
+-- a stream's handle may go to another thread, so what can be ended from there may be shared
+door_send : (K : RattleType) → IsSend K → IsSend (door.the_row K)
+door_send K s =
+    declared_send (door.the_type K) (option_sends.the_send K s, (search sendable, (search (option_sends.the_send, instant_sends.the_send), (search sendable, (search sendable, tt)))))
+
+house_send : (K : RattleType) → IsSend K → IsSend (house.the_row K)
+house_send K s =
+    declared_send (house.the_type K) (Vec-send (option.the_row (door.the_row K)) (option_sends.the_send (door.the_row K) (door_send K s)), (search (option_sends.the_send, address_sends.the_send), (search sendable, tt)))
+
+doors_sync : (K : RattleType) → IsSend K → IsSync (doors.the_row K)
+doors_sync K s =
+    let h = house_send K s in
+    declared_sync (doors.the_type K) (search (sendable, crosses, h) depth 12, (search (sendable, crosses) depth 12, tt))
 
 pub hall_sync : (l : NamedLft) (D R G L K : RattleType) (d : Ghosts D.Denot) → IsSend D → IsSync R → IsSync G → IsSync L → IsSend K → IsSync (hall.the_row l D R G L K d)
 hall_sync l D R G L K d sends runtime gate log handles =
     let shared = shared_sync D d sends in
-    let doors = doors_sends.the_sync K handles in
+    let doors = doors_sync K handles in
     declared_sync (hall.the_type l D R G L K d) (
       search (sendable, runtime),
       (
