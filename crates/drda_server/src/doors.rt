@@ -196,7 +196,8 @@ impl<K: OpenStream + Drop> Doors<K> {
         Found::Nothing
     }
 
-    /// Ends what is read from each stream; or each stream, `wholly`. Who waits for the next stream is given one. Then waits for a moment.
+    /// Ends what is read from each stream, and gives whoever waits for the next one a stream; or ends each stream `wholly`. Then waits
+    /// for a moment.
     pub(crate) fn end_all<R: Wait + Clock + Net>(&self, rt: &R, wholly: bool) -> Found {
         let house = self.house.lock(rt);
         if house.is_over {
@@ -212,8 +213,14 @@ impl<K: OpenStream + Drop> Doors<K> {
                 door.shut(how);
             }
         }
-        if let Some(address) = house.address {
-            let _ = rt.connect(address);
+        let address = house.address;
+        drop(house);
+        if !wholly {
+            knock(rt, address);
+        }
+        let house = self.house.lock(rt);
+        if house.is_over {
+            return Found::Over;
         }
         let _ = self
             .changed
@@ -261,4 +268,11 @@ fn close_late<R: Clock, K: OpenStream + Drop>(
         }
     }
     None
+}
+
+// Connects to where streams are let in, and lets go.
+fn knock<R: Net>(rt: &R, address: Option<SocketAddr>) {
+    if let Some(address) = address {
+        let _ = rt.connect(address);
+    }
 }

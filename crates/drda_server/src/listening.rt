@@ -26,6 +26,9 @@ use std::thread::Threads;
 use std::time::Clock;
 use store_files::{Fault, StoreFiles, flush, open_file};
 
+/// How many units are in doubt at most.
+const MOST_DOUBTS: u64 = 256;
+
 /// Serves conversations over the store of a path, on a port of 127.0.0.1, each in a thread of its own, as the
 /// options say: so many, or without end, and perhaps those alone whose clients go on to send. It ends early where no
 /// stream is let in any more; a stream that fails ends its own conversation alone, and where the device has failed
@@ -72,8 +75,10 @@ where
 fn opened<D: Disk>(core: &DurableCore<D>) -> Notice {
     let mut left = core.in_doubt();
     let mut doubts = 0u64;
-    while let Some(_) = left.next() {
-        doubts = doubts.saturating_add(1);
+    for _ in 0..MOST_DOUBTS {
+        if left.next().is_some() {
+            doubts = doubts.saturating_add(1);
+        }
     }
     Notice::Opened {
         name: Name::of(core.name()),

@@ -154,7 +154,9 @@ where
 }
 
 // A checkpoint is considered, before anything is served.
-fn begin<D: Disk, R: Wait + Clock, G: Gate, L: Log, K: OpenStream + Drop>(hall: &Hall<'_, D, R, G, L, K>) {
+fn begin<D: Disk, R: Wait + Clock, G: Gate, L: Log, K: OpenStream + Drop>(
+    hall: &Hall<'_, D, R, G, L, K>,
+) {
     let turn = hall.shared.consider_checkpoint(hall.rt);
     tell_turn(hall.log, &turn);
     if turn.has_failed {
