@@ -64,11 +64,16 @@ where
         Ok(shared) => shared,
         Err(_) => return Err(Fault::NoMemory),
     };
-    if options.is_logged {
-        log.tell(opened);
-    }
+    tell(log, options, opened);
     listen(rt, alloc, &shared, &settings, net, log, port, options, out)?;
     end_of(alloc, shared)
+}
+
+// Tells it, where the options say so.
+fn tell<L: Log>(log: &L, options: ServeOptions, notice: Notice) {
+    if options.is_logged {
+        log.tell(notice);
+    }
 }
 
 // What is told of a store that is about to be served.

@@ -153,10 +153,14 @@ where
     serve_in(rt, &hall, streams)
 }
 
-// A checkpoint is considered, before anything is served.
+// Whether anybody keeps watch is told, and a checkpoint is considered, before anything is served.
 fn begin<D: Disk, R: Wait + Clock, G: Gate, L: Log, K: OpenStream + Drop>(
     hall: &Hall<'_, D, R, G, L, K>,
+    is_watched: bool,
 ) {
+    if !is_watched {
+        hall.log.tell(Notice::NoWatch);
+    }
     let turn = hall.shared.consider_checkpoint(hall.rt);
     tell_turn(hall.log, &turn);
     if turn.has_failed {
@@ -189,10 +193,8 @@ where
             ensures { IfOk result (λ _. ServesAll (Unit {0}) (IsAttended D.is_modelled D.life S.Reader.remaining S.Writer.contents hall.entry.now.settings.now) S.gives streams.entry.now) }
         {
             let mut threads = no_threads(hall.alloc)?;
-            if scope.spawn(move || keep_watch(hall)).is_err() {
-                hall.log.tell(Notice::NoWatch);
-            }
-            begin(hall);
+            let is_watched = scope.spawn(move || keep_watch(hall)).is_ok();
+            begin(hall, is_watched);
             'serving: for _ in rt.forever() {
                 let Some((reader, writer)) = streams.next() else {
                     break 'serving;

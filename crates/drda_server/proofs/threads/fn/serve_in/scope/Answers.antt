@@ -48,4 +48,4 @@ spawn_with-requires-send-F g c κs within =
 pub spawn-requires-send-F : goal.spawn-requires-send-F
 spawn-requires-send-F g c κs within =
     let hall = hall_sync _ (param 0 g.row.D) (param 1 g.row.R) (param 2 g.row.G) (param 3 g.row.L) _ g.D.Disk c.requires.3 c.requires.0 c.requires.1 c.requires.2 c.requires.5 in
-    param_send 2 _ (arg_send _ no _ (one_send _ _ (shr_send _ _ _ hall)))
+    param_send 1 _ (arg_send _ no _ (one_send _ _ (shr_send _ _ _ hall)))
