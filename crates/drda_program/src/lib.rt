@@ -12,7 +12,7 @@ mod version;
 pub use drda_node::Ready;
 // What conversations come over, and who is told what becomes of them.
 pub use drda_server::{
-    ErrorLog, Failure, Log, Network, Notice, Outcome, Rules, Served, Silent, Streams,
+    ErrorLog, Failure, Log, Name, Network, Notice, Outcome, Rules, Served, Silent, Streams,
     SystemNetwork, serve_streams,
 };
 pub use program::run_words;

@@ -85,7 +85,7 @@ pub struct Name {
 
 impl Name {
     /// The name that a text is, or what stands in front of its 19th byte.
-    pub(crate) fn of(text: &str) -> Name {
+    pub fn of(text: &str) -> Name {
         let mut bytes = [0u8; 18];
         let mut length = 0usize;
         for (place, byte) in bytes.iter_mut().zip(text.as_bytes()) {

@@ -1,7 +1,7 @@
 //! A log that is kept.
 
 use crate::networks::address;
-use drda_program::{Log, Notice, Outcome, Served};
+use drda_program::{Log, Name, Notice, Outcome, Served};
 use std::alloc::Global;
 use std::fmt::Write;
 use std::net::SocketAddr;
@@ -72,7 +72,7 @@ fn timeless(notice: Notice) -> Option<Notice> {
 }
 
 // What a log may be told, each kind of it at least once.
-fn notices() -> [Notice; 16] {
+fn notices() -> [Notice; 19] {
     let peer = Some(address(51234));
     [
         Notice::Begins {
@@ -98,6 +98,13 @@ fn notices() -> [Notice; 16] {
         Notice::NoThread { conversation: 8 },
         Notice::NoWatch,
         ends_refused(peer),
+        Notice::Opened {
+            name: Name::of("SHOP"),
+            room: 2_048,
+            doubts: 3,
+        },
+        full(10, false),
+        full(11, true),
         Notice::LongestWait {
             conversation: 3,
             micros: 1_000,
@@ -130,6 +137,15 @@ fn ends(peer: Option<SocketAddr>) -> Notice {
             waited: 7,
             held: 8,
         },
+    }
+}
+
+fn full(conversation: u64, is_written: bool) -> Notice {
+    Notice::Full {
+        conversation,
+        need: 900,
+        room: 800,
+        is_written,
     }
 }
 
