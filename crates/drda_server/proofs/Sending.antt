@@ -27,11 +27,12 @@ use Rattle.drda_server.proofs.failure.Failure.TheSendSync as failure_sends
 -- a stream's handle may go to another thread, so what can be ended from there may be shared
 door_send : (K : RattleType) → IsSend K → IsSend (door.the_row K)
 door_send K s =
-    declared_send (door.the_type K) (option_sends.the_send K s, (search sendable, (search (option_sends.the_send, instant_sends.the_send), (search sendable, (search sendable, tt)))))
+    declared_send (door.the_type K) (search (option_sends.the_send, s), (search sendable, (search (option_sends.the_send, instant_sends.the_send), (search sendable, (search sendable, tt)))))
 
 house_send : (K : RattleType) → IsSend K → IsSend (house.the_row K)
 house_send K s =
-    declared_send (house.the_type K) (Vec-send (option.the_row (door.the_row K)) (option_sends.the_send (door.the_row K) (door_send K s)), (search (option_sends.the_send, address_sends.the_send), (search sendable, tt)))
+    let d = door_send K s in
+    declared_send (house.the_type K) (Vec-send (option.the_row (door.the_row K)) (search (option_sends.the_send, d)), (search (option_sends.the_send, address_sends.the_send), (search sendable, tt)))
 
 doors_sync : (K : RattleType) → IsSend K → IsSync (doors.the_row K)
 doors_sync K s =
@@ -41,7 +42,7 @@ doors_sync K s =
 pub hall_sync : (l : NamedLft) (D R G L K : RattleType) (d : Ghosts D.Denot) → IsSend D → IsSync R → IsSync G → IsSync L → IsSend K → IsSync (hall.the_row l D R G L K d)
 hall_sync l D R G L K d sends runtime gate log handles =
     let shared = shared_sync D d sends in
-    let doors = doors_sync K handles in
+    let kept = doors_sync K handles in
     declared_sync (hall.the_type l D R G L K d) (
       search (sendable, runtime),
       (
@@ -56,7 +57,7 @@ hall_sync l D R G L K d sends runtime gate log handles =
                 search (sendable, log),
                 (
                   search (sendable, longest_sends.the_sync) depth 12,
-                  (search (sendable, longest_sends.the_sync) depth 12, (search (sendable, fullness_sends.the_sync) depth 12, (search (sendable, failure_sends.the_sync) depth 12, (search (sendable, doors), (search (sendable, crosses) depth 12, (search (sendable, crosses) depth 12, tt)))))),
+                  (search (sendable, longest_sends.the_sync) depth 12, (search (sendable, fullness_sends.the_sync) depth 12, (search (sendable, failure_sends.the_sync) depth 12, (search (sendable, kept), (search (sendable, crosses) depth 12, (search (sendable, crosses) depth 12, tt)))))),
                 ),
               ),
             ),

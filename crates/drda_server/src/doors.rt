@@ -196,23 +196,14 @@ impl<K: OpenStream + Drop> Doors<K> {
         Found::Nothing
     }
 
-    /// Ends what is read from each stream, and gives whoever waits for the next one a stream; or ends each stream `wholly`. Then waits
-    /// for a moment.
+    /// Ends what is read from each stream, and gives whoever waits for the next one a stream; or ends each stream `wholly`, as that of
+    /// who has not opened the database. Then waits for a moment.
     pub(crate) fn end_all<R: Wait + Clock + Net>(&self, rt: &R, wholly: bool) -> Found {
-        let house = self.house.lock(rt);
+        let mut house = self.house.lock(rt);
         if house.is_over {
             return Found::Over;
         }
-        let how = if wholly {
-            Shutdown::Both
-        } else {
-            Shutdown::Read
-        };
-        for slot in house.doors.as_slice() {
-            if let Some(door) = slot {
-                door.shut(how);
-            }
-        }
+        end_doors(&mut house.doors, wholly);
         let address = house.address;
         drop(house);
         if !wholly {
@@ -268,6 +259,19 @@ fn close_late<R: Clock, K: OpenStream + Drop>(
         }
     }
     None
+}
+
+// Ends what is read from each stream of who has opened the database, or the whole stream.
+fn end_doors<K: OpenStream>(doors: &mut [Option<Door<K>>], wholly: bool) {
+    for slot in doors {
+        if let Some(door) = slot {
+            if door.is_opened && !wholly {
+                door.shut(Shutdown::Read);
+            } else {
+                door.close();
+            }
+        }
+    }
 }
 
 // Connects to where streams are let in, and lets go.
