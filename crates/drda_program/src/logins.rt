@@ -13,7 +13,6 @@ use drda_node::Ready;
 use drda_server::{Log, Network, serve_file};
 use std::alloc::Global;
 use std::io::{self, ErrorKind, Read, Write};
-use std::net::Net;
 use std::sync::Wait;
 use std::thread::Threads;
 use std::time::Clock;
@@ -33,7 +32,7 @@ pub(crate) fn serve<T, F, N, L, W>(
     out: &mut W,
 ) -> Result<(), Fault>
 where
-    T: Threads + Wait + Clock + Net + Sync,
+    T: Threads + Wait + Clock + Sync,
     F: StoreFiles,
     N: Network,
     L: Log + Sync,

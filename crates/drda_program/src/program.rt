@@ -19,7 +19,6 @@ use drda_server::{Log, Network};
 use std::alloc::Global;
 use std::convert::AsStr;
 use std::io::{Read, Write};
-use std::net::Net;
 use std::sync::Wait;
 use std::thread::Threads;
 use std::time::Clock;
@@ -63,7 +62,7 @@ use xa_manager::Decision;
 /// core that begins with that state, under one lock; `init` has made it a fresh store of the size and name that
 /// were asked. Where a disk may give back something else than what was written, no state is said of it.
 pub fn run_words<
-    T: Threads + Wait + Clock + Net + Sync,
+    T: Threads + Wait + Clock + Sync,
     S: AsStr,
     F: StoreFiles,
     N: Network,
@@ -124,7 +123,7 @@ fn tell_people<E: Write>(text: &str, err: &mut E)
 
 // Does what the words say. What there is to say of bad words is appended to `text`.
 fn try_words<
-    T: Threads + Wait + Clock + Net + Sync,
+    T: Threads + Wait + Clock + Sync,
     S: AsStr,
     F: StoreFiles,
     N: Network,
@@ -172,7 +171,7 @@ fn fault_of_words(bad: BadWords) -> Fault
 }
 
 fn do_job<
-    T: Threads + Wait + Clock + Net + Sync,
+    T: Threads + Wait + Clock + Sync,
     F: StoreFiles,
     N: Network,
     L: Log + Sync,

@@ -32,39 +32,18 @@ door_send K s =
 house_send : (K : RattleType) → IsSend K → IsSend (house.the_row K)
 house_send K s =
     let d = door_send K s in
-    declared_send (house.the_type K) (Vec-send (option.the_row (door.the_row K)) (search (option_sends.the_send, d)), (search (option_sends.the_send, address_sends.the_send), (search sendable, tt)))
+    declared_send (house.the_type K) (Vec-send (option.the_row (door.the_row K)) (search (option_sends.the_send, d)), (search sendable, (search (sendable, option_sends.the_send), tt)))
 
 doors_sync : (K : RattleType) → IsSend K → IsSync (doors.the_row K)
 doors_sync K s =
     let h = house_send K s in
-    declared_sync (doors.the_type K) (search (sendable, crosses, h) depth 12, (search (sendable, crosses) depth 12, tt))
+    declared_sync (doors.the_type K) (search (sendable, crosses, h) depth 12, tt)
 
 pub hall_sync : (l : NamedLft) (D R G L K : RattleType) (d : Ghosts D.Denot) → IsSend D → IsSync R → IsSync G → IsSync L → IsSend K → IsSync (hall.the_row l D R G L K d)
 hall_sync l D R G L K d sends runtime gate log handles =
     let shared = shared_sync D d sends in
     let kept = doors_sync K handles in
-    declared_sync (hall.the_type l D R G L K d) (
-      search (sendable, runtime),
-      (
-        search (sendable, crosses) depth 20,
-        (
-          search (sendable, shared),
-          (
-            search (sendable, settings_sends.the_sync) depth 12,
-            (
-              search (sendable, gate),
-              (
-                search (sendable, log),
-                (
-                  search (sendable, longest_sends.the_sync) depth 12,
-                  (search (sendable, longest_sends.the_sync) depth 12, (search (sendable, fullness_sends.the_sync) depth 12, (search (sendable, failure_sends.the_sync) depth 12, (search (sendable, kept), (search (sendable, crosses) depth 12, (search (sendable, crosses) depth 12, tt)))))),
-                ),
-              ),
-            ),
-          ),
-        ),
-      ),
-    )
+    declared_sync (hall.the_type l D R G L K d) (search (sendable, runtime), (search (sendable, crosses) depth 20, (search (sendable, shared), (search (sendable, settings_sends.the_sync) depth 12, (search (sendable, gate), (search (sendable, log), (search (sendable, longest_sends.the_sync) depth 12, (search (sendable, longest_sends.the_sync) depth 12, (search (sendable, fullness_sends.the_sync) depth 12, (search (sendable, failure_sends.the_sync) depth 12, (search (sendable, kept), (search (sendable, crosses) depth 12, tt))))))))))))
 
 pub peer_send : IsSend (option.the_row address.the_row)
 peer_send = search (option_sends.the_send, address_sends.the_send)
@@ -73,6 +52,3 @@ peer_send = search (option_sends.the_send, address_sends.the_send)
 pub five_send : (name : List ℕ) (A B C D E : RattleType) → IsSend A → IsSend B → IsSend C → IsSend D → IsSend E → IsSend (TupleAt name (A ∷ B ∷ C ∷ D ∷ E ∷ []))
 five_send name A B C D E a b c d e =
     declared_send (type_at name (A ∷ B ∷ C ∷ D ∷ E ∷ [])) (as_row_send (row_field A) a, (as_row_send (row_field B) b, (as_row_send (row_field C) c, (as_row_send (row_field D) d, (as_row_send (row_field E) e, tt)))))
-
-pub one_send : (name : List ℕ) (A : RattleType) → IsSend A → IsSend (TupleAt name (A ∷ []))
-one_send name A a = declared_send (type_at name (A ∷ [])) (as_row_send (row_field A) a, tt)

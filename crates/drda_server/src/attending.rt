@@ -38,8 +38,6 @@ pub(crate) struct Hall<'a, D: Disk, R: Wait, G: Gate, L: Log, K> {
     pub(crate) fullness: &'a Fullness,
     pub(crate) failure: &'a Failure,
     pub(crate) doors: &'a Doors<K>,
-    /// Within how many seconds a conversation must have opened the database.
-    pub(crate) login: u32,
     /// With how many bytes of rows kept for its cursors a conversation opens no further one.
     pub(crate) cursor_bytes: usize,
 }

@@ -1,16 +1,12 @@
 //! The streams of conversations, to be ended from another thread.
 
-use crate::failure::Failure;
 use std::alloc::{AllocError, Global};
-use std::net::{Net, OpenStream, Shutdown, SocketAddr};
-use std::sync::{Condvar, CondvarTimeouts, Mutex, Wait};
+use std::net::{OpenStream, Shutdown};
+use std::sync::{Mutex, Wait};
 use std::time::{Clock, Duration, Instant};
 
 /// How many conversations are served at a time.
 const PLACES: usize = 64;
-
-/// How often it is looked whether a conversation is late, in milliseconds.
-const MOMENT: u64 = 200;
 
 /// For how many seconds a conversation that has not opened the database keeps its place from a new one.
 const GRACE: u64 = 1;
@@ -29,9 +25,9 @@ struct Door<K> {
 #[derive(Drop)]
 struct House<K> {
     doors: Vec<Option<Door<K>>>,
-    // Where streams are let in, once one was.
-    address: Option<SocketAddr>,
-    is_over: bool,
+    // The seconds that a stream's reads and writes may wait before the database is open, and then.
+    login: u32,
+    idle: Option<u32>,
 }
 
 /// The streams of the conversations that are served, each at its conversation's place. No contract speaks of them: to a conversation whose
@@ -39,18 +35,6 @@ struct House<K> {
 #[derive(Drop)]
 pub(crate) struct Doors<K> {
     house: Mutex<House<K>>,
-    changed: Condvar,
-}
-
-/// What whoever keeps watch finds.
-#[derive(Clone, Copy)]
-pub(crate) enum Found {
-    /// Nothing, for a moment.
-    Nothing,
-    /// This conversation was late, and its stream was ended.
-    Late(u64),
-    /// Serving is over.
-    Over,
 }
 
 impl<K: OpenStream> Door<K> {
@@ -79,19 +63,19 @@ impl<K: OpenStream> Door<K> {
 }
 
 impl<K: OpenStream + Drop> Doors<K> {
-    /// No stream. AllocError where there is no memory for 64.
-    pub(crate) fn new(alloc: Global) -> Result<Doors<K>, AllocError> {
+    /// No stream, and the seconds that one has to open the database, and that its reads and writes may wait then. AllocError where there is
+    /// no memory for 64.
+    pub(crate) fn new(
+        alloc: Global,
+        login: u32,
+        idle: Option<u32>,
+    ) -> Result<Doors<K>, AllocError> {
         let mut doors = Vec::new(alloc);
         for _ in 0..PLACES {
             doors.push(None)?;
         }
         Ok(Doors {
-            house: Mutex::new(House {
-                doors,
-                address: None,
-                is_over: false,
-            }),
-            changed: Condvar::new(),
+            house: Mutex::new(House { doors, login, idle }),
         })
     }
 
@@ -105,9 +89,8 @@ impl<K: OpenStream + Drop> Doors<K> {
     ) {
         let mut house = self.house.lock(rt);
         if let Some(known) = &handle {
-            if let Ok(address) = known.local_addr() {
-                house.address = Some(address);
-            }
+            let strict = house.idle.unwrap_or(u32::MAX).min(house.login);
+            limit(known, Some(strict));
         }
         if let Some(slot) = house.doors.get_mut(place) {
             *slot = Some(Door {
@@ -118,15 +101,17 @@ impl<K: OpenStream + Drop> Doors<K> {
                 is_closed: false,
             });
         }
-        drop(house);
-        self.changed.notify_all();
     }
 
     /// The conversation at a place has opened the database.
     pub(crate) fn open<R: Wait>(&self, rt: &R, place: usize) {
         let mut house = self.house.lock(rt);
+        let idle = house.idle;
         if let Some(Some(door)) = house.doors.get_mut(place) {
             door.is_opened = true;
+            if let Some(handle) = &door.handle {
+                limit(handle, idle);
+            }
         }
     }
 
@@ -172,93 +157,26 @@ impl<K: OpenStream + Drop> Doors<K> {
         }
     }
 
-    /// Ends the stream of a conversation that has not opened the database for so many seconds; where there is none waits until
-    /// something changes, or for a moment. What ends serving is looked at where nobody can change it.
-    pub(crate) fn watch<R: Wait + Clock>(&self, rt: &R, seconds: u32, failure: &Failure) -> Found {
-        let limit = Duration::from_secs(u64::from(seconds));
+    /// Ends the stream of one that has not opened the database in the time that it has, and answers its number.
+    pub(crate) fn end_late<R: Wait + Clock>(&self, rt: &R) -> Option<u64> {
         let mut house = self.house.lock(rt);
-        if house.is_over {
-            return Found::Over;
+        let limit = Duration::from_secs(u64::from(house.login));
+        for slot in house.doors.iter_mut() {
+            if let Some(door) = slot {
+                if door.is_stranger(rt, limit) {
+                    door.close();
+                    return Some(door.conversation);
+                }
+            }
         }
-        if let Some(conversation) = close_late(rt, &mut house.doors, limit) {
-            return Found::Late(conversation);
-        }
-        if failure.ends_serving() {
-            return Found::Nothing;
-        }
-        if has_strangers(&house.doors) {
-            let _ = self
-                .changed
-                .wait_timeout(rt, house, Duration::from_millis(MOMENT));
-        } else {
-            let _house = self.changed.wait(rt, house);
-        }
-        Found::Nothing
+        None
     }
 
-    /// Ends what is read from each stream, and gives whoever waits for the next one a stream; or ends each stream `wholly`, as that of
-    /// who has not opened the database. Then waits for a moment.
-    pub(crate) fn end_all<R: Wait + Clock + Net>(&self, rt: &R, wholly: bool) -> Found {
+    /// Ends what is read from each stream of who has opened the database, and each other one; or each `wholly`.
+    pub(crate) fn end_all<R: Wait>(&self, rt: &R, wholly: bool) {
         let mut house = self.house.lock(rt);
-        if house.is_over {
-            return Found::Over;
-        }
         end_doors(&mut house.doors, wholly);
-        let address = house.address;
-        drop(house);
-        if !wholly {
-            knock(rt, address);
-        }
-        let house = self.house.lock(rt);
-        if house.is_over {
-            return Found::Over;
-        }
-        let _ = self
-            .changed
-            .wait_timeout(rt, house, Duration::from_millis(MOMENT));
-        Found::Nothing
     }
-
-    /// Whoever keeps watch looks at once.
-    pub(crate) fn wake<R: Wait>(&self, rt: &R) {
-        drop(self.house.lock(rt));
-        self.changed.notify_all();
-    }
-
-    /// Serving is over: nobody keeps watch any more.
-    pub(crate) fn close<R: Wait>(&self, rt: &R) {
-        self.house.lock(rt).is_over = true;
-        self.changed.notify_all();
-    }
-}
-
-// Whether one has not opened the database.
-fn has_strangers<K>(doors: &[Option<Door<K>>]) -> bool {
-    for slot in doors {
-        if let Some(door) = slot {
-            if !door.is_opened && !door.is_closed {
-                return true;
-            }
-        }
-    }
-    false
-}
-
-// Ends the stream of the first one that has not opened the database for so long, and answers its number.
-fn close_late<R: Clock, K: OpenStream + Drop>(
-    rt: &R,
-    doors: &mut [Option<Door<K>>],
-    limit: Duration,
-) -> Option<u64> {
-    for slot in doors {
-        if let Some(door) = slot {
-            if door.is_stranger(rt, limit) {
-                door.close();
-                return Some(door.conversation);
-            }
-        }
-    }
-    None
 }
 
 // Ends what is read from each stream of who has opened the database, or the whole stream.
@@ -274,9 +192,12 @@ fn end_doors<K: OpenStream>(doors: &mut [Option<Door<K>>], wholly: bool) {
     }
 }
 
-// Connects to where streams are let in, and lets go.
-fn knock<R: Net>(rt: &R, address: Option<SocketAddr>) {
-    if let Some(address) = address {
-        let _ = rt.connect(address);
-    }
+// Reads of a stream and writes on it wait so many seconds at most, or for ever.
+fn limit<K: OpenStream>(handle: &K, seconds: Option<u32>) {
+    let limit = match seconds {
+        Some(seconds) => Some(Duration::from_secs(u64::from(seconds))),
+        None => None,
+    };
+    let _ = handle.set_read_timeout(limit);
+    let _ = handle.set_write_timeout(limit);
 }

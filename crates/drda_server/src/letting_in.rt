@@ -6,7 +6,7 @@ ghost use Rattle.drda_server.specs.Network.{IsLimited, LetsIn};
 use crate::arrivals::Streams;
 use crate::failure::Failure;
 use crate::network::Network;
-use std::io;
+use std::io::{self, ErrorKind};
 use std::net::SocketAddr;
 
 /// At so many failures in a row to let a stream in, with a moment behind each, none is let in any more.
@@ -82,6 +82,7 @@ impl<N: Network> Streams for LetIn<'_, N> {
                     self.left = left;
                     self.failures = 0;
                 }
+                Err(error) if error.kind() == ErrorKind::WouldBlock => {}
                 Err(_) => self.bear_failure(),
             }
         }

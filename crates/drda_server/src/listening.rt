@@ -20,7 +20,7 @@ use durable_core::DurableCore;
 use shared_node::{OpenGate, Shared};
 use std::alloc::Global;
 use std::io::Write;
-use std::net::{Ipv4Addr, Net, SocketAddr, SocketAddrV4};
+use std::net::{Ipv4Addr, SocketAddr, SocketAddrV4};
 use std::sync::Wait;
 use std::thread::Threads;
 use std::time::Clock;
@@ -46,7 +46,7 @@ pub fn serve_file<R, F, N, L, W>(
     out: &mut W,
 ) -> Result<(), Fault>
 where
-    R: Threads + Wait + Clock + Net + Sync,
+    R: Threads + Wait + Clock + Sync,
     F: StoreFiles,
     N: Network,
     L: Log + Sync,
@@ -67,6 +67,13 @@ where
     tell(log, options, opened);
     listen(rt, alloc, &shared, &settings, net, log, port, options, out)?;
     end_of(alloc, shared)
+}
+
+// Whoever waits for a stream looks up now and then, where a failure ends serving.
+fn look_up<N: Network>(net: &N, listener: &N::Listener, options: ServeOptions) {
+    if options.ends_when_failed {
+        net.look_up(listener);
+    }
 }
 
 // Tells it, where the options say so.
@@ -122,7 +129,7 @@ fn listen<R, D, N, L, W>(
     out: &mut W,
 ) -> Result<(), Fault>
 where
-    R: Threads + Wait + Clock + Net + Sync,
+    R: Threads + Wait + Clock + Sync,
     D: Disk + Send + Drop,
     N: Network,
     L: Log + Sync,
@@ -153,7 +160,7 @@ fn serve_all<R, D, N, L>(
     options: ServeOptions,
 ) -> Result<(), Fault>
 where
-    R: Threads + Wait + Clock + Net + Sync,
+    R: Threads + Wait + Clock + Sync,
     D: Disk + Send + Drop,
     N: Network,
     L: Log + Sync,
@@ -166,9 +173,11 @@ where
     let failure = Failure::new(options.ends_when_failed);
     let rules = Rules {
         login: options.login,
+        idle: options.idle,
         cursor_bytes: usize::try_from(options.cursor_bytes).unwrap_or(usize::MAX),
         failure: &failure,
     };
+    look_up(net, listener, options);
     let mut streams = LetIn::new(net, listener, options.idle, count, &failure);
     let switched = Switched {
         log,

@@ -14,6 +14,17 @@ use std::time::{Clock, Duration};
 /// How long is waited where letting a stream in has failed, in milliseconds.
 const MOMENT: u64 = 100;
 
+/// How long is waited before it is looked again whether a stream has come, in milliseconds.
+const GLANCE: u64 = 20;
+
+// Whether no stream has come yet.
+fn is_none_there<T>(accepted: &io::Result<T>) -> bool {
+    match accepted {
+        Ok(_) => false,
+        Err(error) => error.kind() == io::ErrorKind::WouldBlock,
+    }
+}
+
 /// A network that is listened on.
 ///
 /// As of files, what a call comes to is a member, which says nothing unless an impl says more.
@@ -38,7 +49,7 @@ pub trait Network {
     fn port(&self, listener: &Self::Listener) -> io::Result<u16>
         ensures { IfOk result (calls.has_port listener.now) };
 
-    /// Waits for the next stream, and lets it in.
+    /// Waits for the next stream, and lets it in; or only for a moment, where `look_up` was asked for, and fails by WouldBlock then.
     fn accept(&mut self, listener: &Self::Listener) -> io::Result<Self::Stream>
         ensures { calls.lets_in self.old listener.now (result_ok result) self.new };
 
@@ -65,6 +76,9 @@ pub trait Network {
     fn handle(&self, _stream: &Self::Stream) -> Option<Self::Writer> {
         None
     }
+
+    /// From now on whoever waits for a stream of a listener looks up now and then.
+    fn look_up(&self, _listener: &Self::Listener) {}
 
     /// Waits a moment, before a stream is let in again where that has failed.
     fn pause(&mut self);
@@ -117,7 +131,11 @@ impl<'a, R: Net + Clock> Network for SystemNetwork<'a, R> {
     }
 
     fn accept(&mut self, listener: &R::Listener) -> io::Result<R::Stream> {
-        let (stream, _) = listener.accept()?;
+        let accepted = listener.accept();
+        if is_none_there(&accepted) {
+            sleep(self.rt, Duration::from_millis(GLANCE));
+        }
+        let (stream, _) = accepted?;
         Ok(stream)
     }
 
@@ -143,6 +161,10 @@ impl<'a, R: Net + Clock> Network for SystemNetwork<'a, R> {
 
     fn writer(&mut self, stream: &R::Stream) -> io::Result<R::Stream> {
         stream.try_clone()
+    }
+
+    fn look_up(&self, listener: &R::Listener) {
+        let _ = listener.set_nonblocking(true);
     }
 
     fn pause(&mut self) {

@@ -47,8 +47,6 @@ pub enum Notice {
     NoThread {
         conversation: u64,
     },
-    /// No thread could be made to keep watch: a conversation that never opens the database keeps its place.
-    NoWatch,
     /// The device has failed, and serving ends.
     EndsFailed,
     /// A conversation of this peer has ended.
@@ -145,7 +143,6 @@ impl fmt::Display for Notice {
             | Notice::Late { .. }
             | Notice::Ousted { .. }
             | Notice::NoThread { .. }
-            | Notice::NoWatch
             | Notice::EndsFailed => write_trouble(f, *self),
             Notice::Ends {
                 conversation,
@@ -203,10 +200,6 @@ fn write_trouble<W: fmt::Write>(f: &mut fmt::Formatter<W>, notice: Notice) -> fm
         Notice::NoThread { conversation } => write!(
             f,
             "drdad: no thread for conversation {conversation}, until it ends no other is let in"
-        ),
-        Notice::NoWatch => write!(
-            f,
-            "drdad: no thread to keep watch, --login and --end-when-failed are not kept"
         ),
         Notice::EndsFailed => write!(f, "drdad: the device has failed, serving ends"),
         _ => Ok(()),

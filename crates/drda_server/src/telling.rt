@@ -32,7 +32,7 @@ impl<R: Wait, G: Gate, L: Log, K: OpenStream + Drop> Gate for TellingGate<'_, R,
         self.gate.after(conversation, turn);
         tell_turn(self.log, turn);
         if turn.has_failed && self.failure.note() {
-            self.doors.wake(self.rt);
+            self.doors.end_all(self.rt, false);
         }
         if let Some(full) = self.fullness.news_of(turn) {
             self.log.tell(Notice::Full {

@@ -7,7 +7,7 @@ ghost use Rattle.drda_server.specs.Threads.{IsAttended, ServesAll};
 use crate::arrivals::Streams;
 use crate::attendance::Attendance;
 use crate::attending::{Hall, attend};
-use crate::doors::{Doors, Found};
+use crate::doors::Doors;
 use crate::failure::Failure;
 use crate::fullness::Fullness;
 use crate::handles::{join_all, join_at, no_threads, put_at};
@@ -19,10 +19,13 @@ use conversation::Settings;
 use drda_disk::Disk;
 use shared_node::{Gate, Pass, Shared};
 use std::alloc::{AllocError, Global};
-use std::net::{Net, OpenStream, SocketAddr};
+use std::net::{OpenStream, SocketAddr};
 use std::sync::Wait;
 use std::thread::{self, Threads, sleep};
 use std::time::{Clock, Duration};
+
+/// How many conversations are served at a time.
+const PLACES: u64 = 64;
 
 /// For how many moments a place is waited for that a conversation has to give back.
 const PATIENCE: u64 = 150;
@@ -30,8 +33,8 @@ const PATIENCE: u64 = 150;
 /// How long such a moment is, in milliseconds.
 const MOMENT: u64 = 10;
 
-/// For so many turns of its watch what is under way may still be answered once the device has failed.
-const GENTLE: u64 = 2;
+/// For how many milliseconds what is under way may still be answered once the device has failed.
+const GENTLE: u64 = 400;
 
 // Leave for a conversation of a stream of this peer, where there is any. The stream can be ended by the handle.
 fn welcome<D: Disk, R: Wait + Clock, G: Gate, L: Log, K: OpenStream + Drop>(
@@ -41,6 +44,7 @@ fn welcome<D: Disk, R: Wait + Clock, G: Gate, L: Log, K: OpenStream + Drop>(
 ) -> Option<Pass>
     ensures { IfSome result (λ pass. pass.place < 64) }
 {
+    end_late(hall);
     let Some(pass) = admit(hall) else {
         hall.log.tell(Notice::TurnedAway { peer });
         return None;
@@ -50,6 +54,18 @@ fn welcome<D: Disk, R: Wait + Clock, G: Gate, L: Log, K: OpenStream + Drop>(
         .begin(hall.rt, pass.place(), conversation, handle);
     hall.log.tell(Notice::Begins { conversation, peer });
     Some(pass)
+}
+
+// Ends the streams of those that have not opened the database in the time that they have.
+fn end_late<D: Disk, R: Wait + Clock, G: Gate, L: Log, K: OpenStream + Drop>(
+    hall: &Hall<'_, D, R, G, L, K>,
+) {
+    for _ in 0..PLACES {
+        match hall.doors.end_late(hall.rt) {
+            Some(conversation) => hall.log.tell(Notice::Late { conversation }),
+            None => return,
+        }
+    }
 }
 
 // Leave for one conversation more. Where there is none, that which came first of those that have not opened the database for a
@@ -73,35 +89,13 @@ fn admit<D: Disk, R: Wait + Clock, G: Gate, L: Log, K: OpenStream + Drop>(
     None
 }
 
-// Ends the streams that keep a place without opening the database for too long, and all of them once the device has failed and that
-// ends serving; until serving is over.
-fn keep_watch<D: Disk, R: Threads + Wait + Clock + Net, G: Gate, L: Log, K: OpenStream + Drop>(
-    hall: &Hall<'_, D, R, G, L, K>,
-) {
-    let mut turns = 0u64;
-    for _ in hall.rt.forever() {
-        let found = if hall.failure.ends_serving() {
-            if turns == 0 {
-                hall.log.tell(Notice::EndsFailed);
-            }
-            turns = turns.saturating_add(1);
-            hall.doors.end_all(hall.rt, turns > GENTLE)
-        } else {
-            hall.doors.watch(hall.rt, hall.login, hall.failure)
-        };
-        match found {
-            Found::Nothing => {}
-            Found::Late(conversation) => hall.log.tell(Notice::Late { conversation }),
-            Found::Over => return,
-        }
-    }
-}
-
 /// What conversations are held to.
 #[derive(Clone, Copy)]
 pub struct Rules<'a> {
     /// Within how many seconds of its coming a conversation must have opened the database; else its stream is ended.
     pub login: u32,
+    /// How many seconds a read or a write of a stream may wait once the database is open, where that is limited.
+    pub idle: Option<u32>,
     /// With so many bytes of rows kept for its open cursors a conversation opens no further one.
     pub cursor_bytes: usize,
     /// Whether serving ends once the device has failed: then each stream is ended once what is under way was answered.
@@ -125,7 +119,7 @@ pub fn serve_streams<D, R, G, L, S>(
 ) -> Result<(), AllocError>
 where
     D: Disk + Send + Drop,
-    R: Threads + Wait + Clock + Net + Sync,
+    R: Threads + Wait + Clock + Sync,
     G: Gate + Sync,
     L: Log + Sync,
     S: Streams,
@@ -134,7 +128,7 @@ where
     ensures { IfOk result (λ _. ServesAll (Unit {0}) (IsAttended D.is_modelled D.life S.Reader.remaining S.Writer.contents settings.now) S.gives streams.old) }
 {
     let (waits, holds, fullness) = (Longest::new(), Longest::new(), Fullness::new());
-    let doors = Doors::new(alloc)?;
+    let doors = Doors::new(alloc, rules.login, rules.idle)?;
     let hall = Hall {
         rt,
         alloc,
@@ -147,25 +141,30 @@ where
         fullness: &fullness,
         failure: rules.failure,
         doors: &doors,
-        login: rules.login,
         cursor_bytes: rules.cursor_bytes,
     };
     serve_in(rt, &hall, streams)
 }
 
-// Whether anybody keeps watch is told, and a checkpoint is considered, before anything is served.
+// A checkpoint is considered, before anything is served.
 fn begin<D: Disk, R: Wait + Clock, G: Gate, L: Log, K: OpenStream + Drop>(
     hall: &Hall<'_, D, R, G, L, K>,
-    is_watched: bool,
 ) {
-    if !is_watched {
-        hall.log.tell(Notice::NoWatch);
-    }
     let turn = hall.shared.consider_checkpoint(hall.rt);
     tell_turn(hall.log, &turn);
     if turn.has_failed {
         hall.failure.note();
-        hall.doors.wake(hall.rt);
+    }
+}
+
+// No stream comes any more. Where that is so since the device has failed, what is under way is given a moment, and each stream is ended.
+fn end<D: Disk, R: Wait + Clock, G: Gate, L: Log, K: OpenStream + Drop>(
+    hall: &Hall<'_, D, R, G, L, K>,
+) {
+    if hall.failure.ends_serving() {
+        hall.log.tell(Notice::EndsFailed);
+        sleep(hall.rt, Duration::from_millis(GENTLE));
+        hall.doors.end_all(hall.rt, true);
     }
 }
 
@@ -177,7 +176,7 @@ fn serve_in<D, R, G, L, S>(
 ) -> Result<(), AllocError>
 where
     D: Disk + Send + Drop,
-    R: Threads + Wait + Clock + Net + Sync,
+    R: Threads + Wait + Clock + Sync,
     G: Gate + Sync,
     L: Log + Sync,
     S: Streams,
@@ -193,8 +192,7 @@ where
             ensures { IfOk result (λ _. ServesAll (Unit {0}) (IsAttended D.is_modelled D.life S.Reader.remaining S.Writer.contents hall.entry.now.settings.now) S.gives streams.entry.now) }
         {
             let mut threads = no_threads(hall.alloc)?;
-            let is_watched = scope.spawn(move || keep_watch(hall)).is_ok();
-            begin(hall, is_watched);
+            begin(hall);
             'serving: for _ in rt.forever() {
                 let Some((reader, writer)) = streams.next() else {
                     break 'serving;
@@ -225,8 +223,8 @@ where
                     }
                 }
             }
+            end(hall);
             join_all(rt, &mut threads);
-            hall.doors.close(rt);
             Ok(())
         },
     )

@@ -72,7 +72,7 @@ fn timeless(notice: Notice) -> Option<Notice> {
 }
 
 // What a log may be told, each kind of it at least once.
-fn notices() -> [Notice; 19] {
+fn notices() -> [Notice; 18] {
     let peer = Some(address(51234));
     [
         Notice::Begins {
@@ -96,7 +96,6 @@ fn notices() -> [Notice; 19] {
         Notice::Late { conversation: 6 },
         Notice::Ousted { conversation: 7 },
         Notice::NoThread { conversation: 8 },
-        Notice::NoWatch,
         ends_refused(peer),
         Notice::Opened {
             name: Name::of("SHOP"),

@@ -9,7 +9,6 @@ use durable_core::{DurableCore, open};
 use shared_node::{Book, Shared};
 use std::alloc::Global;
 use std::marker::Sync;
-use std::net::Net;
 use std::sync::Wait;
 use std::thread::{Threads, yield_now};
 use std::time::Clock;
@@ -77,7 +76,7 @@ impl<'a> Streams for Callers<'a> {
 
 /// Serves these conversations over a core, which is handed back; they wait for each other by these cues. Where
 /// `is_crowd`, the last one comes again and again, until it is heard. None without memory.
-pub fn play<R: Threads + Wait + Clock + Net + Sync>(
+pub fn play<R: Threads + Wait + Clock + Sync>(
     rt: &R,
     alloc: Global,
     core: Core,
@@ -108,7 +107,7 @@ pub fn play<R: Threads + Wait + Clock + Net + Sync>(
 
 // Serves the conversations of these callers over a core, for ana with the password pw. The book that is left, and whether all
 // leave came back to it. None without memory.
-fn serve<R: Threads + Wait + Clock + Net + Sync>(
+fn serve<R: Threads + Wait + Clock + Sync>(
     rt: &R,
     alloc: Global,
     core: Core,
@@ -123,6 +122,7 @@ fn serve<R: Threads + Wait + Clock + Net + Sync>(
     let failure = Failure::new(false);
     let rules = Rules {
         login: 3_600,
+        idle: None,
         cursor_bytes: usize::MAX,
         failure: &failure,
     };
