@@ -70,7 +70,7 @@ static PIPE: [Word<'static>; 4] = [
     USER_FILE,
 ];
 
-static SERVE: [Word<'static>; 7] = [
+static SERVE: [Word<'static>; 10] = [
     STORE,
     Word {
         id: "port",
@@ -87,12 +87,27 @@ static SERVE: [Word<'static>; 7] = [
     Word {
         id: "idle",
         kind: Kind::Option("N"),
-        help: "Closes a connection that has sent nothing for so many seconds, 1 to 4294967",
+        help: "Closes a connection that has sent nothing, or taken nothing, for so many seconds, 1 to 4294967",
+    },
+    Word {
+        id: "login",
+        kind: Kind::OptionOr("N", "30"),
+        help: "Closes a connection that has not opened the database within so many seconds, 1 to 4294967",
+    },
+    Word {
+        id: "cursor-bytes",
+        kind: Kind::OptionOr("N", "67108864"),
+        help: "Opens no further cursor of a connection whose cursors keep so many bytes of rows",
     },
     Word {
         id: "log",
         kind: Kind::Flag,
         help: "Tells on standard error what becomes of conversations, a line each",
+    },
+    Word {
+        id: "end-when-failed",
+        kind: Kind::Flag,
+        help: "Ends, with status 2, once the device has failed",
     },
 ];
 

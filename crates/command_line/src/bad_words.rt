@@ -74,6 +74,20 @@ fn tell_of_options(given: &ArgMatches<'_>, said: &mut String) {
             return tell_value(said, "idle", idle, SECONDS_WANTED);
         }
     }
+    tell_of_limits(given, said);
+}
+
+fn tell_of_limits(given: &ArgMatches<'_>, said: &mut String) {
+    if let Some(login) = given.get_str("login") {
+        if seconds_in(login).is_none() {
+            return tell_value(said, "login", login, SECONDS_WANTED);
+        }
+    }
+    if let Some(bytes) = given.get_str("cursor-bytes") {
+        if number_in(bytes).is_none() {
+            return tell_value(said, "cursor-bytes", bytes, COUNT_WANTED);
+        }
+    }
     tell_of_login(given, said);
 }
 

@@ -26,10 +26,16 @@ pub enum LoginSource<'a> {
 pub struct ServeOptions {
     /// `--count N`: how many, or without end.
     pub count: Option<u64>,
-    /// `--idle N`: how many seconds a client may send nothing, 1 to 4,294,967, or for ever.
+    /// `--idle N`: for how many seconds a client may send nothing, or take nothing, 1 to 4,294,967, or for ever.
     pub idle: Option<u32>,
+    /// `--login N`: within how many seconds of its coming a client must have opened the database, 1 to 4,294,967; 30 where it is not said.
+    pub login: u32,
+    /// `--cursor-bytes N`: with so many bytes of rows kept for its cursors a client opens no further one; 67,108,864 where it is not said.
+    pub cursor_bytes: u64,
     /// `--log`: whether it is told on standard error what becomes of them.
     pub is_logged: bool,
+    /// `--end-when-failed`: whether serving ends once the device has failed.
+    pub ends_when_failed: bool,
 }
 
 /// What the words ask for. Contracts see it by `plain_job`.
@@ -49,7 +55,8 @@ pub enum Job<'a> {
         rdb: &'a str,
         login: LoginSource<'a>,
     },
-    /// `serve PATH --port N --user U:P [--count N] [--idle N] [--log]`, or with `--user-file FILE`:
+    /// `serve PATH --port N --user U:P [--count N] [--idle N] [--login N]
+    /// [--cursor-bytes N] [--log] [--end-when-failed]`, or with `--user-file FILE`:
     /// conversations over sockets.
     Serve {
         path: &'a str,

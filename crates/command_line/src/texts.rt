@@ -64,16 +64,40 @@ pub(crate) fn serve_by<'a>(
 pub(crate) fn options_by(
     count: Option<&str>,
     idle: Option<&str>,
+    limits: Option<Limits>,
     log: Option<&str>,
+    end_when_failed: Option<&str>,
 ) -> Option<ServeOptions>
-    ensures { result ≡ spec.options_by (option_map (λ t. t.now) count.entry) (option_map (λ t. t.now) idle.entry) (option_map (λ t. t.now) log.entry) }
+    ensures { result ≡ spec.options_by (option_map (λ t. t.now) count.entry) (option_map (λ t. t.now) idle.entry) limits (option_map (λ t. t.now) log.entry) (option_map (λ t. t.now) end_when_failed.entry) }
 {
     let count = counted(count)?;
     let idle = timed(idle)?;
+    let limits = limits?;
     Some(ServeOptions {
         count,
         idle,
+        login: limits.login,
+        cursor_bytes: limits.cursor_bytes,
         is_logged: is_given(log),
+        ends_when_failed: is_given(end_when_failed),
+    })
+}
+
+/// What a client is held to.
+#[derive(Clone, Copy)]
+pub(crate) struct Limits {
+    pub(crate) login: u32,
+    pub(crate) cursor_bytes: u64,
+}
+
+pub(crate) fn limits_by(login: Option<&str>, cursor_bytes: Option<&str>) -> Option<Limits>
+    ensures { result ≡ spec.limits_by (option_map (λ t. t.now) login.entry) (option_map (λ t. t.now) cursor_bytes.entry) }
+{
+    let login = seconds_in(login?)?;
+    let cursor_bytes = number_in(cursor_bytes?)?;
+    Some(Limits {
+        login,
+        cursor_bytes,
     })
 }
 

@@ -9,8 +9,8 @@ use crate::app::drdad;
 use crate::bad_words::tell_bad_word;
 use crate::job::Job;
 use crate::texts::{
-    check_by, decide_by, dump_by, in_doubt_by, init_by, options_by, pipe_by, room_by, serve_by,
-    tables_by,
+    check_by, decide_by, dump_by, in_doubt_by, init_by, limits_by, options_by, pipe_by, room_by,
+    serve_by, tables_by,
 };
 use clap::ArgMatches;
 use clap::error::ErrorKind;
@@ -131,7 +131,7 @@ fn pipe_in<'a>(given: &ArgMatches<'a>) -> Option<Job<'a>>
 }
 
 fn serve_in<'a>(given: &ArgMatches<'a>) -> Option<Job<'a>>
-    ensures { option_map spec.plain_job result ≡ spec.serve_by (spec.value (rows_of (found_of given.now)) (codes "path")) (spec.value (rows_of (found_of given.now)) (codes "port")) (spec.value (rows_of (found_of given.now)) (codes "user")) (spec.value (rows_of (found_of given.now)) (codes "user-file")) (spec.options_by (spec.value (rows_of (found_of given.now)) (codes "count")) (spec.value (rows_of (found_of given.now)) (codes "idle")) (spec.value (rows_of (found_of given.now)) (codes "log"))) }
+    ensures { option_map spec.plain_job result ≡ spec.serve_by (spec.value (rows_of (found_of given.now)) (codes "path")) (spec.value (rows_of (found_of given.now)) (codes "port")) (spec.value (rows_of (found_of given.now)) (codes "user")) (spec.value (rows_of (found_of given.now)) (codes "user-file")) (spec.options_by (spec.value (rows_of (found_of given.now)) (codes "count")) (spec.value (rows_of (found_of given.now)) (codes "idle")) (spec.limits_by (spec.value (rows_of (found_of given.now)) (codes "login")) (spec.value (rows_of (found_of given.now)) (codes "cursor-bytes"))) (spec.value (rows_of (found_of given.now)) (codes "log")) (spec.value (rows_of (found_of given.now)) (codes "end-when-failed"))) }
 {
     serve_by(
         given.get_str("path"),
@@ -141,7 +141,9 @@ fn serve_in<'a>(given: &ArgMatches<'a>) -> Option<Job<'a>>
         options_by(
             given.get_str("count"),
             given.get_str("idle"),
+            limits_by(given.get_str("login"), given.get_str("cursor-bytes")),
             given.get_str("log"),
+            given.get_str("end-when-failed"),
         ),
     )
 }

@@ -1,3 +1,4 @@
+pub mod Access
 pub mod Replies
 pub mod Exchange
 pub mod Closing

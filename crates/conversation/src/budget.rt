@@ -1,4 +1,4 @@
-//! How much of a command is kept.
+//! How much a conversation keeps.
 
 use drda_commands::Stage;
 
@@ -10,6 +10,9 @@ pub struct Budget {
     pub unopened: usize,
     /// Once one is open.
     pub opened: usize,
+    /// How many bytes of rows its open cursors keep before no further one is opened, as where memory is refused. The last one may
+    /// bring them past it.
+    pub cursor_bytes: usize,
 }
 
 impl Budget {
@@ -18,6 +21,7 @@ impl Budget {
         Budget {
             unopened: usize::MAX,
             opened: usize::MAX,
+            cursor_bytes: usize::MAX,
         }
     }
 

@@ -12,6 +12,7 @@ ghost use Rattle.session_commands.specs.Views.{answer_of};
 ghost use Rattle.conversation.specs.Exchange as spec;
 ghost use Rattle.conversation.specs.Views.{standing_of, verdict_of, Appends, ComesTo};
 
+use crate::access::{asks_check, refused_behind};
 use crate::chain::{Link, append_replies, behind, last_format, link_of, worst};
 use crate::database::do_on_database;
 use crate::sizes::most_length;
@@ -117,6 +118,7 @@ fn run<A: Ask>(
     let unicode = state.session.agreed.unicode;
     write_database_name(settings, unicode, &mut state.database_name)?;
     state.replies.clear();
+    state.cursors.admit(&accepted, &state.statements)?;
     out.reserve(most_length(&accepted, &state.statements))?;
     do_on_database(
         alloc,
@@ -127,6 +129,7 @@ fn run<A: Ask>(
         asker,
         &mut state.replies,
     )?;
+    state.cursors.note(alloc, &state.statements);
     let replies = state.replies.as_list();
     let session = behind(state.session, link, worst(replies));
     let is_chained = link.is_chained && !session.is_broken;
@@ -236,8 +239,12 @@ pub(crate) fn do_command<A: Ask>(
     }
     let unicode = session.agreed.unicode;
     let verdict = judge(session.stage, unicode, request.contents, objects);
+    let asks = asks_check(&verdict);
     match answer(alloc, settings, state, verdict, link, asker, out) {
-        Ok(()) => Exchanged::Done,
+        Ok(()) => {
+            state.refused = refused_behind(state.refused, asks, state.session.stage);
+            Exchanged::Done
+        }
         Err(AllocError) => {
             state.session = behind(session, link, 8);
             let is_chained = link.is_chained && !state.session.is_broken;

@@ -1,7 +1,9 @@
 //! One conversation.
 
+use crate::access::{Access, is_checked, is_opened};
 use crate::budget::Budget;
 use crate::exchange::{Exchanged, do_command};
+use crate::kept_cursors::KeptCursors;
 use crate::state::State;
 use command_kit::{Ask, Replies, Statements};
 use dss_frames::{Format, FrameFault, Segments, write_dss};
@@ -56,6 +58,7 @@ impl Front {
     ghost use Rattle.conversation.specs.Held.{newly_held};
     ghost use Rattle.dss_frames.specs.Fault.{IsUnfinished};
     ghost use Rattle.conversation.specs.Steps.{Steps, GoesFar, KeepsToFirst};
+    ghost use Rattle.conversation.specs.Access as how_far;
 
     /// A conversation of which nothing has come.
     pub fn new(alloc: Global, settings: &Settings) -> Result<Front, AllocError>
@@ -65,17 +68,18 @@ impl Front {
             alloc,
             settings: settings.copy(alloc)?,
             segments: Segments::new(alloc),
-            state: fresh_state(alloc),
+            state: fresh_state(alloc, usize::MAX),
             budget: Budget::unbounded(),
             kept: 0,
         })
     }
 
-    /// From now on no more of a command is kept than this.
+    /// From now on no more of a command, and of rows for its cursors, is kept than this.
     pub fn keep_within(&mut self, budget: Budget)
         ensures { self.new ≡ self.old }
     {
         self.budget = budget;
+        self.state.cursors.most = budget.cursor_bytes;
     }
 
     /// Begins anew, with the same settings: what came, what was agreed on and what was kept for its
@@ -86,7 +90,7 @@ impl Front {
     {
         self.alloc = alloc;
         self.segments.restart(alloc);
-        self.state = fresh_state(alloc);
+        self.state = fresh_state(alloc, self.budget.cursor_bytes);
         self.kept = 0;
     }
 
@@ -96,6 +100,19 @@ impl Front {
         ensures { result ≡ self.now.session.is_closed }
     {
         self.state.session.is_closed
+    }
+
+    /// How far it has come towards the database.
+    pub fn access(&self) -> Access
+        ensures checked { result.is_checked ≡ how_far.is_checked self.now.session.stage }
+        ensures opened { result.is_opened ≡ how_far.is_opened self.now.session.stage }
+    {
+        let stage = self.state.session.stage;
+        Access {
+            refused: self.state.refused,
+            is_checked: is_checked(stage),
+            is_opened: is_opened(stage),
+        }
     }
 
     /// Takes the bytes in front of a piece that belong to the command under way, and says how many: up to
@@ -162,7 +179,7 @@ ghost use Rattle.conversation.specs.Steps as steps;
 ghost use Rattle.command_kit.specs.Statements as statements;
 
 // The state of a conversation of which nothing has come. Takes no memory.
-fn fresh_state(alloc: Global) -> State
+fn fresh_state(alloc: Global, cursor_bytes: usize) -> State
     ensures session { result.session ≡ fresh }
     ensures statements { result.statements ≡ statements.fresh }
 {
@@ -171,6 +188,8 @@ fn fresh_state(alloc: Global) -> State
         statements: Statements::new(alloc),
         database_name: Vec::new(alloc),
         replies: Replies::new(alloc),
+        cursors: KeptCursors::new(alloc, cursor_bytes),
+        refused: 0,
     }
 }
 

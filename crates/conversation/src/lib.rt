@@ -4,6 +4,7 @@
 //! sockets, threads or the disk.
 #![tactic(auto)]
 
+mod access;
 mod budget;
 mod chain;
 mod database;
@@ -11,11 +12,13 @@ mod exchange;
 mod fed;
 mod feeding;
 mod front;
+mod kept_cursors;
 pub mod laws;
 mod sizes;
 mod state;
 mod writing;
 
+pub use access::Access;
 pub use budget::Budget;
 pub use drda_commands::{Mechanism, Stage};
 pub use fed::{Fed, FedState, Heard, HeardSome};

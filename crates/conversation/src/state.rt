@@ -1,5 +1,6 @@
 //! What the commands of a conversation work on.
 
+use crate::kept_cursors::KeptCursors;
 use command_kit::{Replies, Statements};
 use session_commands::Session;
 
@@ -11,4 +12,8 @@ pub(crate) struct State {
     /// The database's name as it is answered.
     pub database_name: Vec<u8>,
     pub replies: Replies,
+    /// What its open cursors keep.
+    pub cursors: KeptCursors,
+    /// How many checks of the user have failed.
+    pub refused: u64,
 }

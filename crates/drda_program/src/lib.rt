@@ -12,7 +12,8 @@ mod version;
 pub use drda_node::Ready;
 // What conversations come over, and who is told what becomes of them.
 pub use drda_server::{
-    ErrorLog, Log, Network, Notice, Outcome, Served, Silent, Streams, SystemNetwork, serve_streams,
+    ErrorLog, Failure, Log, Name, Network, Notice, Outcome, Rules, Served, Silent, Streams,
+    SystemNetwork, serve_streams,
 };
 pub use program::run_words;
 pub use store_files::{Fault, StoreFiles, SystemFiles};

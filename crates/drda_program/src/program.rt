@@ -35,9 +35,10 @@ use xa_manager::Decision;
 /// - `init PATH --size N --rdb NAME` makes a store in a new file, and says its size.
 /// - `pipe [PATH] [--rdb NAME] --user U:P` answers event records from `reader` to `out`, over the store
 ///   of the path, or over one in memory that is just made and has this name.
-/// - `serve PATH --port N --user U:P [--count N] [--idle N] [--log]` says its port and serves conversations over
-///   sockets, up to 64 side by side, each in a thread of its own; with `--idle N` a connection on which nothing has
-///   come for N seconds is closed, with `--log` what becomes of conversations is told to `log`.
+/// - `serve PATH --port N --user U:P [--count N] [--idle N] [--login N] [--cursor-bytes N] [--log] [--end-when-failed]` says
+///   its port and serves conversations over sockets, up to 64 side by side, each in a thread of its own; with `--idle N` a
+///   connection on which nothing has come, or nothing was taken, for N seconds is closed, one that has not opened the database
+///   within the N seconds of `--login` is too, and with `--log` what becomes of conversations is told to `log`.
 /// - `indoubt PATH` lists the units in doubt of a store, with how each was decided heuristically, where it was.
 /// - `decide PATH FORMAT:GLOBAL:BRANCH commit|rollback`, or with these parts in words of their own, decides a unit in doubt in
 ///   the place of its transaction manager, and says so; a store of layout 1 is checkpointed first.

@@ -14,6 +14,8 @@ pub record NetworkCalls (N L S W : Type 0) : Type 1 where
   pub lets_in : N → L → Option S → N → Type 0
   -- a stream gets a limit, in seconds, for how long a read of it waits; or it gets none
   pub limits : N → S → ℕ → Option (Unit {0}) → N → Type 0
+  -- the same for how long a write on it waits
+  pub limits_writes : N → S → ℕ → Option (Unit {0}) → N → Type 0
   -- small segments of what is written on a stream are sent at once from then on; or they wait as before
   pub hurries : N → S → Option (Unit {0}) → N → Type 0
   -- a stream gets a second handle, to be written on
@@ -21,7 +23,7 @@ pub record NetworkCalls (N L S W : Type 0) : Type 1 where
 
 -- nothing is known of them
 abbrev pub any_network : {N L S W : Type 0} → NetworkCalls N L S W
-any_network = record { binds = λ _ _ _ _. Unit {0}; has_port = λ _ _. Unit {0}; lets_in = λ _ _ _ _. Unit {0}; limits = λ _ _ _ _ _. Unit {0}; hurries = λ _ _ _ _. Unit {0}; answers = λ _ _ _ _. Unit {0} }
+any_network = record { binds = λ _ _ _ _. Unit {0}; has_port = λ _ _. Unit {0}; lets_in = λ _ _ _ _. Unit {0}; limits = λ _ _ _ _ _. Unit {0}; limits_writes = λ _ _ _ _ _. Unit {0}; hurries = λ _ _ _ _. Unit {0}; answers = λ _ _ _ _. Unit {0} }
 
 -- 127.0.0.1, and this port
 abbrev pub IsLocal : SocketAddr → ℕ → Type 0
@@ -29,10 +31,10 @@ IsLocal (V4 address) port = (ipv4_octets (v4_ip address) ≡ 127 ∷ 0 ∷ 0 ∷
 IsLocal (V6 address) port = ⊥
 
 module _ {N L S W : Type 0} (calls : NetworkCalls N L S W) where
-  -- reads of a stream are limited to so many seconds, where some are given
+  -- reads of a stream, and then writes on it, are limited to so many seconds, where some are given
   abbrev pub IsLimited : N → S → Option ℕ → N → Type 0
   IsLimited net stream None net' = net' ≡ net
-  IsLimited net stream (Some seconds) net' = calls.limits net stream seconds (Some tt) net'
+  IsLimited net stream (Some seconds) net' = (mid : N) × calls.limits net stream seconds (Some tt) mid × calls.limits_writes mid stream seconds (Some tt) net'
 
   -- they could not be limited
   abbrev pub IsNotLimited : N → S → Option ℕ → N → Type 0

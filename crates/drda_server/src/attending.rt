@@ -5,17 +5,20 @@ ghost use Rattle.shared_node.specs.Locked.{Retires, UnderLock};
 ghost use Rattle.drda_server.specs.Threads.{Attends};
 
 use crate::attended::Attended;
+use crate::doors::Doors;
+use crate::failure::Failure;
+use crate::fullness::Fullness;
+use crate::guest::{Guest, unseen};
 use crate::log::Log;
 use crate::longest::Longest;
 use crate::notice::{Notice, Outcome};
 use crate::telling::TellingGate;
-use crate::watching::Watched;
 use conversation::Settings;
 use drda_disk::Disk;
 use shared_node::{Desk, Gate, Origin, Pass, Shared};
 use std::alloc::Global;
 use std::io::{Read, Write};
-use std::net::SocketAddr;
+use std::net::{OpenStream, SocketAddr};
 use std::snapshot::Snapshot;
 use std::sync::Wait;
 use std::time::Clock;
@@ -23,7 +26,7 @@ use stream_service::Served;
 
 /// What all threads share.
 #[derive(Clone, Copy)]
-pub(crate) struct Hall<'a, D: Disk, B: Origin<D>, R: Wait, G: Gate, L: Log> {
+pub(crate) struct Hall<'a, D: Disk, B: Origin<D>, R: Wait, G: Gate, L: Log, K> {
     pub(crate) rt: &'a R,
     pub(crate) alloc: Global,
     pub(crate) shared: &'a Shared<D, B>,
@@ -32,6 +35,11 @@ pub(crate) struct Hall<'a, D: Disk, B: Origin<D>, R: Wait, G: Gate, L: Log> {
     pub(crate) log: &'a L,
     pub(crate) waits: &'a Longest,
     pub(crate) holds: &'a Longest,
+    pub(crate) fullness: &'a Fullness,
+    pub(crate) failure: &'a Failure,
+    pub(crate) doors: &'a Doors<K>,
+    /// With how many bytes of rows kept for its cursors a conversation opens no further one.
+    pub(crate) cursor_bytes: usize,
 }
 
 /// Attends to one conversation, whose stream these two are of. What it left unfinished is lost at its end, and its leave is
@@ -43,9 +51,9 @@ pub(crate) fn attend<
     G: Gate,
     L: Log,
     I: Read + Drop,
-    O: Write + Drop,
+    O: Write + OpenStream + Drop,
 >(
-    hall: &Hall<'_, D, B, R, G, L>,
+    hall: &Hall<'_, D, B, R, G, L, O>,
     pass: Pass,
     peer: Option<SocketAddr>,
     reader: I,
@@ -55,22 +63,39 @@ pub(crate) fn attend<
 {
     let conversation = pass.conversation();
     let gate = TellingGate {
+        rt: hall.rt,
         gate: hall.gate,
         log: hall.log,
         waits: hall.waits,
         holds: hall.holds,
+        fullness: hall.fullness,
+        failure: hall.failure,
+        doors: hall.doors,
+    };
+    let place = pass.place();
+    let mut guest = Guest {
+        rt: hall.rt,
+        log: hall.log,
+        doors: hall.doors,
+        place,
+        conversation,
+        cursor_bytes: hall.cursor_bytes,
+        seen: unseen(),
     };
     let mut reader = reader;
-    let mut writer = Watched::new(writer, hall.log, conversation);
+    let mut writer = writer;
     let ended = Desk::new(hall.rt, hall.shared, &gate, pass).serve(
         hall.alloc,
         hall.settings,
         &mut reader,
         &mut writer,
+        &mut guest,
     );
+    hall.doors.end(hall.rt, place);
     let outcome = Outcome {
         served: ended.served,
-        is_logged_in: writer.is_logged_in(),
+        is_logged_in: guest.seen.is_checked,
+        refused: guest.seen.refused,
         calls: ended.pass.count(),
         waited: ended.longest_wait,
         held: ended.longest_hold,
@@ -80,13 +105,13 @@ pub(crate) fn attend<
         peer,
         outcome,
     });
-    let writer = Snapshot::of(writer.inner());
+    let writer = Snapshot::of(&writer);
     retire(hall, ended.served, ended.pass, writer)
 }
 
 // Gives the pass of a conversation that was lost back.
 fn retire<D: Disk, B: Origin<D>, R: Wait + Clock, G: Gate, L: Log, O>(
-    hall: &Hall<'_, D, B, R, G, L>,
+    hall: &Hall<'_, D, B, R, G, L, O>,
     served: Served,
     pass: Pass,
     writer: Snapshot<O>,

@@ -4,8 +4,9 @@ ghost use Rattle.std.specs.Prelude.{◌≡◌, IfErr, IfOk, IfSome, None, Ok};
 ghost use Rattle.drda_server.specs.Network.{ClosesAtOnce, FailsToLetIn, IsLimited, IsNotLimited, LetsIn};
 
 use crate::arrivals::Streams;
+use crate::failure::Failure;
 use crate::network::Network;
-use std::io;
+use std::io::{self, ErrorKind};
 use std::net::SocketAddr;
 
 /// At so many failures in a row to let a stream in, with a moment behind each, none is let in any more.
@@ -20,17 +21,19 @@ pub(crate) struct LetIn<'a, N: Network> {
     left: u64,
     failures: u64,
     has_failed: bool,
+    failure: &'a Failure,
 }
 
 impl<'a, N: Network> LetIn<'a, N> {
     ghost use Rattle.std.specs.Prelude.{◌≡◌};
 
-    /// So many of them, with this limit of seconds for each read.
+    /// So many of them, with this limit of seconds for each read and each write, and none any more once serving ends by a failure.
     pub(crate) fn new(
         net: &'a mut N,
         listener: &'a N::Listener,
         idle: Option<u32>,
         count: u64,
+        failure: &'a Failure,
     ) -> LetIn<'a, N>
         ensures listener { result.listener.now ≡ listener.now }
         ensures idle { result.idle ≡ idle }
@@ -43,6 +46,7 @@ impl<'a, N: Network> LetIn<'a, N> {
             left: count,
             failures: 0,
             has_failed: false,
+            failure,
         }
     }
 
@@ -63,8 +67,12 @@ impl<N: Network> Streams for LetIn<'_, N> {
 
     fn next(&mut self) -> Option<(N::Stream, N::Writer)> {
         for _ in 0..u64::MAX {
+            if self.failure.ends_serving() {
+                self.end();
+            }
             let left = self.left.checked_sub(1)?;
             match let_in(self.net, self.listener, self.idle) {
+                Ok(_) if self.failure.ends_serving() => self.end(),
                 Ok(Some(given)) => {
                     self.left = left;
                     self.failures = 0;
@@ -74,6 +82,7 @@ impl<N: Network> Streams for LetIn<'_, N> {
                     self.left = left;
                     self.failures = 0;
                 }
+                Err(error) if error.kind() == ErrorKind::WouldBlock => {}
                 Err(_) => self.bear_failure(),
             }
         }
@@ -83,6 +92,10 @@ impl<N: Network> Streams for LetIn<'_, N> {
 
     fn peer(&self, reader: &N::Stream) -> Option<SocketAddr> {
         self.net.peer(reader)
+    }
+
+    fn handle(&self, reader: &N::Stream) -> Option<N::Writer> {
+        self.net.handle(reader)
     }
 }
 
@@ -136,13 +149,16 @@ fn let_in<N: Network>(
     }
 }
 
-// Limits the reads of a stream, where seconds are given.
+// Limits the reads of a stream and the writes on it, where seconds are given.
 fn limit<N: Network>(net: &mut N, stream: &N::Stream, idle: Option<u32>) -> io::Result<()>
     ensures limited { IfOk result (λ _. IsLimited N.calls net.old stream.now idle net.new) }
     ensures refused { IfErr result (λ _. IsNotLimited N.calls net.old stream.now idle net.new) }
 {
     match idle {
-        Some(seconds) => net.limit(stream, seconds),
+        Some(seconds) => {
+            net.limit(stream, seconds)?;
+            net.limit_writes(stream, seconds)
+        }
         None => Ok(()),
     }
 }

@@ -7,10 +7,12 @@ ghost use Rattle.drda_server.specs.Listening.{Listens, ServesStreams, port_line}
 ghost use Rattle.drda_server.specs.Serving.{EndsSo, ServesCore, ServesFile, seen, settings_of, surroundings};
 ghost use Rattle.store_files.specs.Stores.{IsOfDevice, RefusesName};
 
+use crate::failure::Failure;
 use crate::letting_in::LetIn;
 use crate::log::{Log, Switched};
 use crate::network::Network;
-use crate::threads::serve_streams;
+use crate::notice::{Name, Notice};
+use crate::threads::{Rules, serve_streams};
 use command_line::{Login, ServeOptions};
 use conversation::{Settings, SettingsError};
 use core_history::lasting::kept_books_last;
@@ -25,6 +27,9 @@ use std::sync::Wait;
 use std::thread::Threads;
 use std::time::Clock;
 use store_files::{Fault, StoreFiles, flush, open_file};
+
+/// How many units are in doubt at most.
+const MOST_DOUBTS: u64 = 256;
 
 /// Serves conversations over the store of a path, on a port of 127.0.0.1, each in a thread of its own, as the
 /// options say: so many, or without end, and perhaps those alone whose clients go on to send. It ends early where no
@@ -86,13 +91,45 @@ where
     requires { B.is core }
     ensures { ServesCore D.is_modelled D.life N.calls N.Stream.remaining N.Writer.contents B.is settings.now options port net.old (W.contents out.old) result net.new (W.contents out.new) }
 {
+    let opened = opened(&core);
     let shared: Shared<D, B> = match Shared::new(alloc, core) {
         Ok(shared) => shared,
         Err(_) => return Err(Fault::NoMemory),
     };
+    tell(log, options, opened);
     let listened = listen(rt, alloc, &shared, settings, net, log, port, options, out);
     let ended = end_of(alloc, shared);
     listened.and(ended)
+}
+
+// Whoever waits for a stream looks up now and then, where a failure ends serving.
+fn look_up<N: Network>(net: &N, listener: &N::Listener, options: ServeOptions) {
+    if options.ends_when_failed {
+        net.look_up(listener);
+    }
+}
+
+// Tells it, where the options say so.
+fn tell<L: Log>(log: &L, options: ServeOptions, notice: Notice) {
+    if options.is_logged {
+        log.tell(notice);
+    }
+}
+
+// What is told of a store that is about to be served.
+fn opened<D: Disk>(core: &DurableCore<D>) -> Notice {
+    let mut left = core.in_doubt();
+    let mut doubts = 0u64;
+    for _ in 0..MOST_DOUBTS {
+        if left.next().is_some() {
+            doubts = doubts.saturating_add(1);
+        }
+    }
+    Notice::Opened {
+        name: Name::of(core.name()),
+        room: core.room(),
+        doubts,
+    }
 }
 
 // What a server of this login starts its conversations with, whose database has the name of its store. A name
@@ -168,7 +205,15 @@ where
     ensures served { (result ≡ Err Fault.NoMemory) ⊎ ServesStreams N.calls D.is_modelled D.life B.is N.Stream.remaining N.Writer.contents settings.now options listener.now }
 {
     let count = options.count.unwrap_or(u64::MAX);
-    let mut streams = LetIn::new(net, listener, options.idle, count);
+    let failure = Failure::new(options.ends_when_failed);
+    let rules = Rules {
+        login: options.login,
+        idle: options.idle,
+        cursor_bytes: usize::try_from(options.cursor_bytes).unwrap_or(usize::MAX),
+        failure: &failure,
+    };
+    look_up(net, listener, options);
+    let mut streams = LetIn::new(net, listener, options.idle, count, &failure);
     let switched = Switched {
         log,
         is_on: options.is_logged,
@@ -180,6 +225,7 @@ where
         settings,
         &OpenGate,
         &switched,
+        rules,
         &mut streams,
     )?;
     if streams.has_failed() {

@@ -14,6 +14,17 @@ use std::time::{Clock, Duration};
 /// How long is waited where letting a stream in has failed, in milliseconds.
 const MOMENT: u64 = 100;
 
+/// How long is waited before it is looked again whether a stream has come, in milliseconds.
+const GLANCE: u64 = 20;
+
+// Whether no stream has come yet.
+fn is_none_there<T>(accepted: &io::Result<T>) -> bool {
+    match accepted {
+        Ok(_) => false,
+        Err(error) => error.kind() == io::ErrorKind::WouldBlock,
+    }
+}
+
 /// A network that is listened on.
 ///
 /// As of files, what a call comes to is a member, which says nothing unless an impl says more.
@@ -25,7 +36,7 @@ pub trait Network {
     type Stream: Read + Drop;
 
     /// The second handle of a stream, to be written on.
-    type Writer: Write + Drop;
+    type Writer: Write + OpenStream + Drop;
 
     /// What a call comes to.
     ghost calls: { NetworkCalls Self Self.Listener Self.Stream Self.Writer } = { any_network };
@@ -38,7 +49,7 @@ pub trait Network {
     fn port(&self, listener: &Self::Listener) -> io::Result<u16>
         ensures { IfOk result (calls.has_port listener.now) };
 
-    /// Waits for the next stream, and lets it in.
+    /// Waits for the next stream, and lets it in; or only for a moment, where `look_up` was asked for, and fails by WouldBlock then.
     fn accept(&mut self, listener: &Self::Listener) -> io::Result<Self::Stream>
         ensures { calls.lets_in self.old listener.now (result_ok result) self.new };
 
@@ -49,6 +60,10 @@ pub trait Network {
     fn limit(&mut self, stream: &Self::Stream, seconds: u32) -> io::Result<()>
         ensures { calls.limits self.old stream.now seconds (result_ok result) self.new };
 
+    /// From now on a write on the stream that has waited for so many seconds, without a byte that was taken, fails.
+    fn limit_writes(&mut self, stream: &Self::Stream, seconds: u32) -> io::Result<()>
+        ensures { calls.limits_writes self.old stream.now seconds (result_ok result) self.new };
+
     /// From now on small segments of what is written on the stream are sent at once, and none waits for more.
     fn hurry(&mut self, stream: &Self::Stream) -> io::Result<()>
         ensures { calls.hurries self.old stream.now (result_ok result) self.new };
@@ -56,6 +71,14 @@ pub trait Network {
     /// A second handle of a stream, to be written on.
     fn writer(&mut self, stream: &Self::Stream) -> io::Result<Self::Writer>
         ensures { calls.answers self.old stream.now (result_ok result) self.new };
+
+    /// A handle more of a stream, by which it can be ended from another thread; None where there is none to be had.
+    fn handle(&self, _stream: &Self::Stream) -> Option<Self::Writer> {
+        None
+    }
+
+    /// From now on whoever waits for a stream of a listener looks up now and then.
+    fn look_up(&self, _listener: &Self::Listener) {}
 
     /// Waits a moment, before a stream is let in again where that has failed.
     fn pause(&mut self);
@@ -108,7 +131,11 @@ impl<'a, R: Net + Clock> Network for SystemNetwork<'a, R> {
     }
 
     fn accept(&mut self, listener: &R::Listener) -> io::Result<R::Stream> {
-        let (stream, _) = listener.accept()?;
+        let accepted = listener.accept();
+        if is_none_there(&accepted) {
+            sleep(self.rt, Duration::from_millis(GLANCE));
+        }
+        let (stream, _) = accepted?;
         Ok(stream)
     }
 
@@ -120,12 +147,24 @@ impl<'a, R: Net + Clock> Network for SystemNetwork<'a, R> {
         stream.set_read_timeout(Some(Duration::from_secs(u64::from(seconds))))
     }
 
+    fn limit_writes(&mut self, stream: &R::Stream, seconds: u32) -> io::Result<()> {
+        stream.set_write_timeout(Some(Duration::from_secs(u64::from(seconds))))
+    }
+
+    fn handle(&self, stream: &R::Stream) -> Option<R::Stream> {
+        stream.try_clone().ok()
+    }
+
     fn hurry(&mut self, stream: &R::Stream) -> io::Result<()> {
         stream.set_nodelay(true)
     }
 
     fn writer(&mut self, stream: &R::Stream) -> io::Result<R::Stream> {
         stream.try_clone()
+    }
+
+    fn look_up(&self, listener: &R::Listener) {
+        let _ = listener.set_nonblocking(true);
     }
 
     fn pause(&mut self) {

@@ -20,6 +20,35 @@ pub enum Notice {
     Refused {
         conversation: u64,
     },
+    /// Conversations over the database of this name are about to be served, with so many bytes left for records and so many units in
+    /// doubt.
+    Opened {
+        name: Name,
+        room: usize,
+        doubts: u64,
+    },
+    /// A record of a conversation, which takes and holds so many bytes, found no room in those that are left; behind a checkpoint, or
+    /// since none could be written.
+    Full {
+        conversation: u64,
+        need: u64,
+        room: u64,
+        is_written: bool,
+    },
+    /// A conversation has not opened the database in the time that it has, and its stream is ended.
+    Late {
+        conversation: u64,
+    },
+    /// A conversation has not opened the database, and its stream is ended since another one wants its place.
+    Ousted {
+        conversation: u64,
+    },
+    /// No thread could be made for a conversation: until it has ended, no other one is let in.
+    NoThread {
+        conversation: u64,
+    },
+    /// The device has failed, and serving ends.
+    EndsFailed,
     /// A conversation of this peer has ended.
     Ends {
         conversation: u64,
@@ -45,6 +74,35 @@ pub enum Notice {
     },
 }
 
+/// The name of a database, of 18 bytes at most.
+#[derive(Clone, Copy, Debug, PartialEq, Eq)]
+pub struct Name {
+    bytes: [u8; 18],
+    length: usize,
+}
+
+impl Name {
+    /// The name that a text is, or what stands in front of its 19th byte.
+    pub fn of(text: &str) -> Name {
+        let mut bytes = [0u8; 18];
+        let mut length = 0usize;
+        for (place, byte) in bytes.iter_mut().zip(text.as_bytes()) {
+            *place = *byte;
+            length = length.saturating_add(1);
+        }
+        Name { bytes, length }
+    }
+}
+
+impl fmt::Display for Name {
+    fn fmt<W: fmt::Write>(&self, f: &mut fmt::Formatter<W>) -> fmt::Result {
+        for byte in self.bytes.as_slice().iter().take(self.length) {
+            f.write_char(char::from(*byte))?;
+        }
+        Ok(())
+    }
+}
+
 /// How a conversation has ended.
 #[derive(Clone, Copy, Debug, PartialEq, Eq)]
 pub struct Outcome {
@@ -52,6 +110,8 @@ pub struct Outcome {
     pub served: Served,
     /// Whether its user and its password were right.
     pub is_logged_in: bool,
+    /// How many of its logins were refused.
+    pub refused: u64,
     /// How many of its calls are listed, its loss among them.
     pub calls: u64,
     /// For how many microseconds one of them waited for the lock at most.
@@ -75,6 +135,15 @@ impl fmt::Display for Notice {
                 f,
                 "drdad: conversation {conversation}: user or password refused"
             ),
+            Notice::Opened { name, room, doubts } => write!(
+                f,
+                "drdad: database {name}, room {room}, in doubt {doubts}"
+            ),
+            Notice::Full { .. }
+            | Notice::Late { .. }
+            | Notice::Ousted { .. }
+            | Notice::NoThread { .. }
+            | Notice::EndsFailed => write_trouble(f, *self),
             Notice::Ends {
                 conversation,
                 peer,
@@ -107,6 +176,36 @@ impl fmt::Display for Notice {
     }
 }
 
+// What keeps conversations from being served.
+fn write_trouble<W: fmt::Write>(f: &mut fmt::Formatter<W>, notice: Notice) -> fmt::Result {
+    match notice {
+        Notice::Full {
+            conversation,
+            need,
+            room,
+            is_written,
+        } => write!(
+            f,
+            "drdad: conversation {conversation}: no room for {need} bytes, {room} are left: {}",
+            behind(is_written)
+        ),
+        Notice::Late { conversation } => write!(
+            f,
+            "drdad: conversation {conversation} has not opened the database in time, ended"
+        ),
+        Notice::Ousted { conversation } => write!(
+            f,
+            "drdad: conversation {conversation} has not opened the database, its place is given to another"
+        ),
+        Notice::NoThread { conversation } => write!(
+            f,
+            "drdad: no thread for conversation {conversation}, until it ends no other is let in"
+        ),
+        Notice::EndsFailed => write!(f, "drdad: the device has failed, serving ends"),
+        _ => Ok(()),
+    }
+}
+
 fn write_peer<W: fmt::Write>(f: &mut fmt::Formatter<W>, peer: Option<SocketAddr>) -> fmt::Result {
     match peer {
         Some(peer) => write!(f, "{peer}"),
@@ -120,7 +219,21 @@ fn write_outcome<W: fmt::Write>(f: &mut fmt::Formatter<W>, outcome: Outcome) -> 
     write!(
         f,
         ": {cause}, {login}, calls {calls}, waited at most {waited} us, lock held at most {held} us"
-    )
+    )?;
+    if outcome.refused > 0 {
+        let refused = outcome.refused;
+        write!(f, ", logins refused {refused}")?;
+    }
+    Ok(())
+}
+
+// Which of both is full.
+fn behind(is_written: bool) -> &'static str {
+    if is_written {
+        "behind a checkpoint, smaller units go through"
+    } else {
+        "no checkpoint makes more"
+    }
 }
 
 // What ended a conversation.

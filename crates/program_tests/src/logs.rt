@@ -1,7 +1,7 @@
 //! A log that is kept.
 
 use crate::networks::address;
-use drda_program::{Log, Notice, Outcome, Served};
+use drda_program::{Log, Name, Notice, Outcome, Served};
 use std::alloc::Global;
 use std::fmt::Write;
 use std::net::SocketAddr;
@@ -72,7 +72,7 @@ fn timeless(notice: Notice) -> Option<Notice> {
 }
 
 // What a log may be told, each kind of it at least once.
-fn notices() -> [Notice; 10] {
+fn notices() -> [Notice; 18] {
     let peer = Some(address(51234));
     [
         Notice::Begins {
@@ -92,6 +92,18 @@ fn notices() -> [Notice; 10] {
             room: 2_048,
         },
         Notice::DeviceFailed,
+        Notice::EndsFailed,
+        Notice::Late { conversation: 6 },
+        Notice::Ousted { conversation: 7 },
+        Notice::NoThread { conversation: 8 },
+        ends_refused(peer),
+        Notice::Opened {
+            name: Name::of("SHOP"),
+            room: 2_048,
+            doubts: 3,
+        },
+        full(10, false),
+        full(11, true),
         Notice::LongestWait {
             conversation: 3,
             micros: 1_000,
@@ -119,9 +131,34 @@ fn ends(peer: Option<SocketAddr>) -> Notice {
         outcome: Outcome {
             served: Served::NoMemory,
             is_logged_in: true,
+            refused: 0,
             calls: 6,
             waited: 7,
             held: 8,
+        },
+    }
+}
+
+fn full(conversation: u64, is_written: bool) -> Notice {
+    Notice::Full {
+        conversation,
+        need: 900,
+        room: 800,
+        is_written,
+    }
+}
+
+fn ends_refused(peer: Option<SocketAddr>) -> Notice {
+    Notice::Ends {
+        conversation: 9,
+        peer,
+        outcome: Outcome {
+            served: Served::Done,
+            is_logged_in: false,
+            refused: 4,
+            calls: 1,
+            waited: 0,
+            held: 0,
         },
     }
 }

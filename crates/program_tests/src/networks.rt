@@ -2,7 +2,7 @@
 
 use drda_program::Network;
 use std::io::{self, ErrorKind, Read, Write};
-use std::net::{Ipv4Addr, SocketAddr, SocketAddrV4};
+use std::net::{Ipv4Addr, OpenStream, SocketAddr, SocketAddrV4};
 
 /// A network with one listener, of this machine alone, asked for the port 0 or 4711 and found at 4711. By its way the ports are `taken`; none
 /// is let in (`shut`); letting one in fails 99 times before the first (`late`), before each (`late-each`), or 100 times (`too-late`); or the first
@@ -21,12 +21,14 @@ pub struct Callers<'a> {
     is_hurried: bool,
     /// To how many seconds the reads of the last one were limited, 0 where they were not.
     pub limit: u32,
+    /// The same for the writes on it.
+    pub limit_writes: u32,
     /// How often it was paused.
     pub pauses: u64,
 }
 
-/// Who calls. One that is `broken` can't be read, one that is `deaf` can't be written to, `alone` has no second handle and `slow` can't be
-/// hurried; any other one says bytes and hears all.
+/// Who calls. One that is `broken` can't be read, one that is `deaf` can't be written to, `alone` has no second handle, `slow` can't be
+/// hurried and the writes on one that is `mute` can't be limited; any other one says bytes and hears all.
 #[derive(Drop)]
 pub struct Call<'a> {
     way: &'a str,
@@ -62,6 +64,7 @@ impl<'a> Callers<'a> {
             is_refused: false,
             is_hurried: false,
             limit: 0,
+            limit_writes: 0,
             pauses: 0,
         }
     }
@@ -130,6 +133,14 @@ impl<'a> Network for Callers<'a> {
         Ok(())
     }
 
+    fn limit_writes(&mut self, stream: &Call<'a>, seconds: u32) -> io::Result<()> {
+        if stream.way == "mute" {
+            return refused();
+        }
+        self.limit_writes = seconds;
+        Ok(())
+    }
+
     fn hurry(&mut self, stream: &Call<'a>) -> io::Result<()> {
         self.is_hurried = true;
         if stream.way == "slow" {
@@ -152,6 +163,9 @@ impl<'a> Network for Callers<'a> {
         self.pauses = self.pauses.saturating_add(1);
     }
 }
+
+// It can't be ended from elsewhere.
+impl OpenStream for Call<'_> {}
 
 impl Read for Call<'_> {
     fn read(&mut self, buffer: &mut [u8]) -> io::Result<usize> {

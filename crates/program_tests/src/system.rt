@@ -96,10 +96,12 @@ fn tell_stream<R: Net + Clock>(
     told: &mut Vec<u8>,
 ) -> Option<()> {
     net.limit(stream, 7).ok()?;
+    net.limit_writes(stream, 9).ok()?;
     net.hurry(stream).ok()?;
     let is_peer = net.peer(stream) == Some(client.local_addr().ok()?);
     let is_hurried = stream.nodelay().ok()?;
-    let is_limited = stream.read_timeout().ok()? == Some(Duration::from_secs(7));
+    let is_limited = stream.read_timeout().ok()? == Some(Duration::from_secs(7))
+        && stream.write_timeout().ok()? == Some(Duration::from_secs(9));
     let is_heard = is_heard(net, stream, client)?;
     let text = format!(in alloc;
         "local {is_local}, peer {is_peer}, hurried {is_hurried}, limited {is_limited}, heard {is_heard}\n"

@@ -31,7 +31,8 @@ struct Scene<'a> {
 /// its name, or it is taken away where they are 0; with `sockets` two sockets meet.
 ///
 /// Tells each line with what the program came to: its status, the size of the file that it made, what it wrote, the lines of its log, the
-/// limit of a stream's reads, how often letting one in was paused, and what it said on standard error. None where a line is none of these, and without memory.
+/// limit of a stream's reads and writes, how often letting one in was paused, and what it said on standard error. None where a line is none of
+/// these, and without memory.
 pub fn follow<T: Threads + Wait + Clock + Files<File = File> + Net + Sync>(
     place: &Place<'_, T>,
     text: &str,
@@ -83,7 +84,7 @@ fn try_line<T: Threads + Wait + Clock + Files<File = File> + Net + Sync>(
 }
 
 // Over files in memory.
-fn try_shelf<T: Threads + Wait + Clock + Files<File = File> + Sync>(
+fn try_shelf<T: Threads + Wait + Clock + Files<File = File> + Net + Sync>(
     place: &Place<'_, T>,
     words: &str,
     shelf: &mut Shelf<'_>,
@@ -96,7 +97,7 @@ fn try_shelf<T: Threads + Wait + Clock + Files<File = File> + Sync>(
 }
 
 // Over files of the system.
-fn try_files<T: Threads + Wait + Clock + Files<File = File> + Sync>(
+fn try_files<T: Threads + Wait + Clock + Files<File = File> + Net + Sync>(
     place: &Place<'_, T>,
     words: &str,
     scene: Scene<'_>,
@@ -110,7 +111,7 @@ fn try_files<T: Threads + Wait + Clock + Files<File = File> + Sync>(
 
 // The program over these words: its status, and what was said. What is said on standard error of files of the system has their paths, and is
 // left out.
-fn status_of<T: Threads + Wait + Clock + Files<File = File> + Sync, F: StoreFiles>(
+fn status_of<T: Threads + Wait + Clock + Files<File = File> + Net + Sync, F: StoreFiles>(
     place: &Place<'_, T>,
     words: &str,
     files: &mut F,
@@ -169,9 +170,9 @@ fn push_said(
     said.extend_from_slice(out).ok()?;
     push_lines(said, lines, false)?;
     push_lines(said, lines, true)?;
-    let (limit, pauses) = (net.limit, net.pauses);
-    if limit > 0 {
-        let text = format!(in alloc; "reads limited to {limit} s\n").ok()?;
+    let (reads, writes, pauses) = (net.limit, net.limit_writes, net.pauses);
+    if reads > 0 {
+        let text = format!(in alloc; "reads limited to {reads} s, writes to {writes} s\n").ok()?;
         said.extend_from_slice(text.as_bytes()).ok()?;
     }
     if pauses > 0 {

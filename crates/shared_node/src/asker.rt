@@ -3,7 +3,7 @@
 use crate::gate::Gate;
 use crate::origin::Origin;
 use crate::shared::Shared;
-use crate::turn::{Begun, time};
+use crate::turn::{Begun, Turn, full_of, time};
 use command_kit::Ask;
 use core_calls::{Answer, CoreCall};
 use core_history::{Acted, Pass, Wished, has_run_behind, wished_by};
@@ -115,6 +115,10 @@ impl<'a, D: Disk, B: Origin<D>, R: Wait + Clock, G: Gate> Ask for Asker<'a, D, B
         }
         self.waited = self.waited.max(turn.waited);
         self.held = self.held.max(turn.held);
+        let turn = Turn {
+            full: full_of(&acted),
+            ..turn
+        };
         self.gate.after(self.pass.conversation(), &turn);
         told(acted)
     }

@@ -16,7 +16,7 @@ use std::alloc::Global;
 use std::io::{Read, Write};
 use std::sync::Wait;
 use std::time::Clock;
-use stream_service::{Served, serve};
+use stream_service::{Host, Served, serve};
 
 /// One conversation's place at the book, for the calls of a pass. Nobody can ask there but the conversation that is served: call
 /// by call under the lock. Commits that wait, and phases of two-phase commit, are made together by the first of them, but for
@@ -58,19 +58,20 @@ impl<'a, D: Disk, B: Origin<D>, R: Wait + Clock, G: Gate> Desk<'a, D, B, R, G> {
 
     /// Serves a conversation over a stream, from its first byte to its loss: what it is answered is what its pass shows as
     /// listed, and its loss is the last call. Where memory is refused before the first byte, nothing is heard, asked or
-    /// written.
-    pub fn serve<I: Read, O: Write>(
+    /// written. `host` looks on; nothing that is said here depends on it.
+    pub fn serve<I: Read, O: Write, H: Host>(
         self,
         alloc: Global,
         settings: &Settings,
         reader: &mut I,
         writer: &mut O,
+        host: &mut H,
     ) -> Ended
         ensures served { IfSome (I.remaining reader.old) (λ input. IsServed (DeskAsks D.is_modelled D.life B.is) settings.now self.entry.pass input (O.contents writer.old) result.served (O.contents writer.new) result.pass) }
         ensures lost { IsLost (DeskAsks D.is_modelled D.life B.is) self.entry.pass result.served result.pass }
     {
         let mut asker = Asker::new(self.rt, self.shared, self.gate, self.pass);
-        let served = serve_asker(alloc, settings, &mut asker, reader, writer);
+        let served = serve_asker(alloc, settings, &mut asker, reader, writer, host);
         let (longest_wait, longest_hold) = asker.longest();
         Ended {
             pass: asker.into_pass(),
@@ -82,19 +83,20 @@ impl<'a, D: Disk, B: Origin<D>, R: Wait + Clock, G: Gate> Desk<'a, D, B, R, G> {
 }
 
 // The same, for who asks.
-fn serve_asker<'a, D: Disk, B: Origin<D>, R: Wait + Clock, G: Gate, I: Read, O: Write>(
+fn serve_asker<'a, D: Disk, B: Origin<D>, R: Wait + Clock, G: Gate, I: Read, O: Write, H: Host>(
     alloc: Global,
     settings: &Settings,
     asker: &mut Asker<'a, D, B, R, G>,
     reader: &mut I,
     writer: &mut O,
+    host: &mut H,
 ) -> Served
     ensures served { IfSome (I.remaining reader.old) (λ input. IsServed (DeskAsks D.is_modelled D.life B.is) settings.now asker.old input (O.contents writer.old) result (O.contents writer.new) asker.new) }
     ensures lost { IsLost (DeskAsks D.is_modelled D.life B.is) asker.old result asker.new }
 {
     stays_read();
     match Front::new(alloc, settings) {
-        Ok(mut front) => serve(alloc, &mut front, reader, writer, asker),
+        Ok(mut front) => serve(alloc, &mut front, reader, writer, asker, host),
         Err(_) => Served::NoMemory,
     }
 }

@@ -2,7 +2,8 @@
 
 ghost use Rattle.std.specs.Prelude.{◌≡◌, IfSome};
 
-use core_history::Book;
+use core_calls::Answer;
+use core_history::{Acted, Book};
 use drda_disk::Disk;
 use std::time::{Clock, Instant};
 
@@ -17,6 +18,28 @@ pub struct Turn {
     pub checkpointed: Option<usize>,
     /// Whether the device failed in this turn.
     pub has_failed: bool,
+    /// Whether its call was answered that its record finds no room.
+    pub full: Option<Full>,
+}
+
+/// A record that finds no room.
+#[derive(Clone, Copy, Debug, PartialEq, Eq)]
+pub struct Full {
+    /// The bytes that it takes and holds.
+    pub need: u64,
+    /// The bytes that are left.
+    pub room: u64,
+}
+
+/// Whether a call was answered so.
+pub(crate) fn full_of(acted: &Acted) -> Option<Full> {
+    match acted {
+        Acted::Answered(Answer::Full { need, room }) => Some(Full {
+            need: *need,
+            room: *room,
+        }),
+        Acted::Answered(_) | Acted::StrangerPass => None,
+    }
 }
 
 /// A turn that has begun, with what the book was like then.
@@ -55,6 +78,7 @@ impl Begun {
             held: micros_between(self.at, time(rt)),
             checkpointed: room_where(book, book.checkpoints() != self.written),
             has_failed: book.core().is_failed() && !self.is_failed,
+            full: None,
         }
     }
 }

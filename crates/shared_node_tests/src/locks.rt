@@ -9,6 +9,7 @@ use std::alloc::Global;
 use std::marker::Brand;
 use std::sync::Wait;
 use std::time::Clock;
+use stream_service::OpenHouse;
 use test_bytes::{bytes_of, push_texts};
 use test_calls::push_text;
 
@@ -74,7 +75,7 @@ fn hold<R: Wait + Clock>(
     let desk = Desk::new(rt, shared, &tally, shared.admit(rt)?);
     let mut reader = said.as_slice();
     let mut replies = Vec::new(alloc);
-    let ended = desk.serve(alloc, &settings, &mut reader, &mut replies);
+    let ended = desk.serve(alloc, &settings, &mut reader, &mut replies, &mut OpenHouse);
     Some((ended.pass, ends_in(&replies), tally.told()))
 }
 

@@ -6,8 +6,9 @@ ghost use Rattle.conversation.specs.Attended.{attended_by};
 ghost use Rattle.conversation.specs.Feeding.{IsBetweenCommands};
 ghost use Rattle.stream_service.specs.Serving.{AnswersPiece, Converses, Loses, Serves};
 
+use crate::host::Host;
 use command_kit::Ask;
-use conversation::{Budget, Front, Heard, feed_some, write_whole};
+use conversation::{Access, Budget, Front, Heard, feed_some, write_whole};
 use core_calls::CoreCall;
 use dss_frames::stays_read;
 use std::alloc::{AllocError, Global};
@@ -24,6 +25,7 @@ const LONG: usize = 65_536;
 const KEPT: Budget = Budget {
     unopened: 65_536,
     opened: 9_437_184,
+    cursor_bytes: usize::MAX,
 };
 
 /// How the service of a stream ended.
@@ -47,38 +49,44 @@ pub enum Served {
 /// overwritten before it is given back.
 ///
 /// No more than 64 KiB are kept of a command before a database is opened, and then 9 MiB: one that goes on past that ends
-/// the service as refused memory does.
+/// the service as refused memory does. `host` says how much open cursors may keep, and is shown how far the conversation has come
+/// before an answer is written: before a database is opened, before each single one.
 ///
 /// `Done` comes only where the conversation was answered all of the input. An asker that can't go on is
 /// answered for by AGNPRMRM, which closes the conversation, and so is `Done` too. What was heard was done,
 /// and its answers are written: all of them on `ReadFault`; all but perhaps the last, which says that a
 /// command found no memory, on `NoMemory`; a prefix of them on `WriteFault`.
-pub fn serve<A: Ask, R: Read, W: Write>(
+pub fn serve<A: Ask, R: Read, W: Write, H: Host>(
     alloc: Global,
     front: &mut Front,
     reader: &mut R,
     writer: &mut W,
     asker: &mut A,
+    host: &mut H,
 ) -> Served
     requires { IsBetweenCommands front.old }
     ensures serves { IfSome (R.remaining reader.old) (λ input. Serves A.asks front.old.settings (attended_by front.old asker.old) input (W.contents writer.old) result (W.contents writer.new) asker.new) }
     ensures lost { (before : A) × Loses A.asks before asker.new }
     ensures forgets { front.new ≡ newly_held front.old.settings }
 {
-    front.keep_within(KEPT);
-    let served = converse(alloc, front, reader, writer, asker);
+    front.keep_within(Budget {
+        cursor_bytes: host.cursor_bytes(),
+        ..KEPT
+    });
+    let served = converse(alloc, front, reader, writer, asker, host);
     let _ = asker.ask(&CoreCall::Lost);
     front.restart(alloc);
     served
 }
 
 // Until the stream ends or fails, the conversation is closed or memory is refused.
-fn converse<A: Ask, R: Read, W: Write>(
+fn converse<A: Ask, R: Read, W: Write, H: Host>(
     alloc: Global,
     front: &mut Front,
     reader: &mut R,
     writer: &mut W,
     asker: &mut A,
+    host: &mut H,
 ) -> Served
     requires { IsBetweenCommands front.old }
     ensures settings { front.new.settings ≡ front.old.settings }
@@ -95,7 +103,15 @@ fn converse<A: Ask, R: Read, W: Write>(
             Ok(count) => count,
             Err(_) => return Served::ReadFault,
         };
-        let ended = answer_piece(alloc, front, asker, &buffer[..count], &mut replies, writer);
+        let ended = answer_piece(
+            alloc,
+            front,
+            asker,
+            &buffer[..count],
+            &mut replies,
+            writer,
+            host,
+        );
         overwrite(&mut buffer, count);
         match ended {
             None => {}
@@ -107,13 +123,14 @@ fn converse<A: Ask, R: Read, W: Write>(
 
 // Hears a piece, and writes the answers to it: whenever they are long, and at its end. So no more of them are gathered
 // than is long, and what one command is answered. None where the conversation goes on.
-fn answer_piece<A: Ask, W: Write>(
+fn answer_piece<A: Ask, W: Write, H: Host>(
     alloc: Global,
     front: &mut Front,
     asker: &mut A,
     piece: &[u8],
     replies: &mut Vec<u8>,
     writer: &mut W,
+    host: &mut H,
 ) -> Option<Served>
     requires settled { IsBetweenCommands front.old }
     requires empty { replies.old.items ≡ [] }
@@ -125,8 +142,10 @@ fn answer_piece<A: Ask, W: Write>(
     stays_read();
     let mut taken = 0;
     'hearing: loop {
-        let part = feed_some(front, asker, &piece[taken..], LONG, replies);
+        let most = most_gathered(front.access());
+        let part = feed_some(front, asker, &piece[taken..], most, replies);
         taken += part.taken;
+        show(front.access(), replies, host);
         let Ok(()) = write_whole(writer, replies) else {
             return Some(Served::WriteFault);
         };
@@ -144,6 +163,18 @@ fn answer_piece<A: Ask, W: Write>(
 }
 
 ghost use Rattle.std.specs.Prelude.{◌≤◌, ◌++◌, [], None, IfOk, drop, length, replicate};
+
+// So many bytes of answers are gathered before they are written. A conversation without a database is shown answer by answer.
+fn most_gathered(access: Access) -> usize {
+    if access.is_opened { LONG } else { 0 }
+}
+
+// Shows the host how far a conversation has come, where it is answered something.
+fn show<H: Host>(access: Access, replies: &Vec<u8>, host: &mut H) {
+    if !replies.is_empty() {
+        host.look(access);
+    }
+}
 
 // Takes out what was written. Where that was long its memory is given back: a conversation that asked for much and
 // then says nothing holds no more than its buffers.

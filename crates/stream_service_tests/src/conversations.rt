@@ -4,7 +4,7 @@ use crate::cores::{Core, serve_over};
 use crate::names::bytes_named;
 use crate::streams::{AT_ONCE, Giving, Manner, Taking};
 use std::alloc::{AllocError, Global};
-use stream_service::Served;
+use stream_service::{Access, Host, Served};
 
 /// What became of a conversation.
 #[derive(Clone, Copy)]
@@ -20,6 +20,40 @@ pub struct Outcome {
     pub is_clean: bool,
     /// Whether no more was written at once than 65,536 bytes and one answer of 69.
     pub is_short: bool,
+    /// What its host saw.
+    pub host: Seen,
+}
+
+/// A host that lets a conversation keep so many bytes for its cursors, and what it saw.
+#[derive(Clone, Copy)]
+pub struct Seen {
+    pub cursor_bytes: usize,
+    pub looks: u32,
+    pub access: Access,
+}
+
+impl Host for Seen {
+    fn cursor_bytes(&self) -> usize {
+        self.cursor_bytes
+    }
+
+    fn look(&mut self, access: Access) {
+        self.looks = self.looks.saturating_add(1);
+        self.access = access;
+    }
+}
+
+// Nothing was seen yet.
+fn unseen(cursor_bytes: usize) -> Seen {
+    Seen {
+        cursor_bytes,
+        looks: 0,
+        access: Access {
+            refused: 0,
+            is_checked: false,
+            is_opened: false,
+        },
+    }
 }
 
 /// What becomes of a conversation that sends this and is to be answered so.
@@ -29,6 +63,7 @@ pub fn heard(
     input: &[u8],
     wanted: &[u8],
     manner: Manner,
+    cursor_bytes: usize,
 ) -> Outcome {
     let mut reader = Giving {
         bytes: input.get(..manner.coming).unwrap_or(input),
@@ -41,7 +76,8 @@ pub fn heard(
         manner,
         longest: 0,
     };
-    let served = serve_over(alloc, core, &mut reader, &mut writer);
+    let mut host = unseen(cursor_bytes);
+    let served = serve_over(alloc, core, &mut reader, &mut writer, &mut host);
     let size = writer.bytes.len();
     Outcome {
         served,
@@ -50,6 +86,7 @@ pub fn heard(
         is_wanted: wanted.get(..size) == Some(writer.bytes.as_slice()),
         is_clean: !reader.finds,
         is_short: writer.longest <= 65_536 + 69,
+        host,
     }
 }
 
@@ -84,7 +121,8 @@ fn manner_of(verb: &str, count: usize) -> Manner {
     }
 }
 
-/// Tells what becomes of a conversation whose requests and replies have these names: all of them so many times behind `times`, else once.
+/// Tells what becomes of a conversation whose requests and replies have these names: all of them so many times behind `times`, else once;
+/// and what its host saw, where it lets it keep the bytes behind `keeps` for its cursors.
 pub fn tell_served(
     alloc: Global,
     core: &mut Core,
@@ -98,11 +136,25 @@ pub fn tell_served(
     let times = if verb == "times" { count } else { 1 };
     let input = bytes_named(alloc, text, requests, times)?;
     let wanted = bytes_named(alloc, text, replies, times)?;
-    let came = heard(alloc, core, &input, &wanted, manner_of(verb, count));
+    let keeps = if verb == "keeps" { count } else { usize::MAX };
+    let came = heard(alloc, core, &input, &wanted, manner_of(verb, count), keeps);
     let (served, size, all) = (came.served, came.size, wanted.len());
     let (is_wanted, is_clean, is_short) = (came.is_wanted, came.is_clean, came.is_short);
     writeln!(
         out,
         "  {served:?}, {size} of {all} bytes; as wanted {is_wanted}, clean {is_clean}, short {is_short}"
+    )?;
+    if verb == "keeps" {
+        tell_host(came.host, out)?;
+    }
+    Ok(())
+}
+
+fn tell_host(host: Seen, out: &mut String) -> Result<(), AllocError> {
+    let (looks, refused) = (host.looks, host.access.refused);
+    let (is_checked, is_opened) = (host.access.is_checked, host.access.is_opened);
+    writeln!(
+        out,
+        "  shown {looks} times, refused {refused}, checked {is_checked}, opened {is_opened}"
     )
 }

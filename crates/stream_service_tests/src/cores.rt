@@ -11,7 +11,7 @@ use durable_core::{DurableCore, open};
 use half_store::format;
 use std::alloc::{AllocError, Global};
 use std::io::{Read, Write};
-use stream_service::{Served, serve};
+use stream_service::{Host, Served, serve};
 
 /// The least store.
 const TWO_MIB: usize = 2_097_152;
@@ -47,11 +47,12 @@ pub fn core_over(alloc: Global, calls: u64) -> Result<Core, AllocError> {
 }
 
 /// How a new conversation is served, for ana with the password pw and the database SHOP. None without memory.
-pub fn serve_over<D: Disk, R: Read, W: Write>(
+pub fn serve_over<D: Disk, R: Read, W: Write, H: Host>(
     alloc: Global,
     core: &mut DurableCore<D>,
     reader: &mut R,
     writer: &mut W,
+    host: &mut H,
 ) -> Option<Served> {
     stays_read();
     let settings = Settings::new(alloc, "ana", "pw", "SHOP").ok()?;
@@ -59,5 +60,5 @@ pub fn serve_over<D: Disk, R: Read, W: Write>(
         return None;
     };
     let mut asker = Asker { core };
-    Some(serve(alloc, &mut front, reader, writer, &mut asker))
+    Some(serve(alloc, &mut front, reader, writer, &mut asker, host))
 }

@@ -18,7 +18,7 @@ fn served_behind(
 ) -> Option<(Option<Served>, u32, bool)> {
     let mut core = core_over(alloc, calls).ok()?;
     let manner = Manner { given, ..AT_ONCE };
-    let came = heard(alloc, &mut core, input, wanted, manner);
+    let came = heard(alloc, &mut core, input, wanted, manner, usize::MAX);
     let is_whole = came.is_wanted && came.size == wanted.len();
     Some((came.served, came.reads, is_whole))
 }

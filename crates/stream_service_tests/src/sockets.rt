@@ -5,7 +5,7 @@ use crate::names::bytes_named;
 use std::alloc::{AllocError, Global};
 use std::io::{Read, Write};
 use std::net::{Ipv4Addr, Net, OpenListener, OpenStream, Shutdown, SocketAddr, SocketAddrV4};
-use stream_service::Served;
+use stream_service::{OpenHouse, Served};
 
 // Serves the one who waits.
 fn serve_one<L: OpenListener>(alloc: Global, core: &mut Core, listener: &L) -> Option<Served>
@@ -14,7 +14,7 @@ where
 {
     let (mut reader, _) = listener.accept().ok()?;
     let mut writer = reader.try_clone().ok()?;
-    serve_over(alloc, core, &mut reader, &mut writer)
+    serve_over(alloc, core, &mut reader, &mut writer, &mut OpenHouse)
 }
 
 // Whether this was sent, and that no more comes.

@@ -4,7 +4,7 @@ use crate::stages::{Cue, LIMIT, Stage};
 use crate::talks::{Checker, Talk, Tape};
 use conversation::Settings;
 use drda_disk::MemDisk;
-use drda_program::{Silent, Streams, serve_streams};
+use drda_program::{Failure, Rules, Silent, Streams, serve_streams};
 use durable_core::{DurableCore, open};
 use shared_node::{Book, Shared};
 use std::alloc::Global;
@@ -155,7 +155,17 @@ fn serve<R: Threads + Wait + Clock + Sync>(
         Err(_) => return None,
     };
     let settings = Settings::new(alloc, "ana", "pw", "SHOP").ok()?;
-    serve_streams(rt, alloc, &shared, &settings, stage, &Silent, callers).ok()?;
+    let failure = Failure::new(false);
+    let rules = Rules {
+        login: 3_600,
+        idle: None,
+        cursor_bytes: usize::MAX,
+        failure: &failure,
+    };
+    serve_streams(
+        rt, alloc, &shared, &settings, stage, &Silent, rules, callers,
+    )
+    .ok()?;
     match shared.close(Vec::new(alloc)) {
         Ok(book) => Some((book, true)),
         Err(book) => Some((book, false)),

@@ -3,6 +3,7 @@
 use crate::stages::{LIMIT, Point, Stage};
 use std::alloc::Global;
 use std::io::{self, Read, Write};
+use std::net::OpenStream;
 use std::sync::atomic::{AtomicU64, Ordering};
 use std::thread::yield_now;
 
@@ -198,6 +199,9 @@ impl Checker<'_> {
         }
     }
 }
+
+// It can't be ended from elsewhere.
+impl OpenStream for Checker<'_> {}
 
 impl Write for Checker<'_> {
     fn write(&mut self, bytes: &[u8]) -> io::Result<usize> {

@@ -42,5 +42,5 @@ returns g c = elim c.match-next.branch [
 
 pub spawn_with-requires-send-F : goal.spawn_with-requires-send-F
 spawn_with-requires-send-F g c κs within =
-    let hall = hall_sync _ (param 0 g.row.D) (param 1 g.row.B) (param 2 g.row.R) (param 3 g.row.G) (param 4 g.row.L) g.D.Disk g.B.Origin c.requires.3 c.requires.0 c.requires.1 c.requires.2 in
+    let hall = hall_sync _ (param 0 g.row.D) (param 1 g.row.B) (param 2 g.row.R) (param 3 g.row.G) (param 4 g.row.L) _ g.D.Disk g.B.Origin c.requires.3 c.requires.0 c.requires.1 c.requires.2 c.requires.5 in
     param_send 2 _ (arg_send _ no _ (five_send _ _ _ _ _ _ (shr_send _ _ _ hall) pass_sends.the_send peer_send c.requires.4 c.requires.5))

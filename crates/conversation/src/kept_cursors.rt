@@ -1,0 +1,100 @@
+//! How much the open cursors of a conversation keep.
+
+use command_kit::Statements;
+use drda_commands::{Accepted, Command};
+use std::alloc::{AllocError, Global};
+use tables::RowList;
+
+/// A cursor that stayed open behind its opening.
+#[derive(Drop)]
+struct KeptCursor {
+    section: Vec<u8>,
+    // The bytes of its rows.
+    bytes: usize,
+}
+
+/// The cursors that a conversation has opened, and how many bytes of rows they may keep before no further one is opened. No clause
+/// speaks of it: what it refuses is refused as memory is.
+#[derive(Drop)]
+pub(crate) struct KeptCursors {
+    pub(crate) most: usize,
+    cursors: Vec<KeptCursor>,
+    // The section whose cursor is being opened, if one is.
+    section: Vec<u8>,
+    is_opening: bool,
+}
+
+impl KeptCursors {
+    /// None was opened. Takes no memory.
+    pub(crate) fn new(alloc: Global, most: usize) -> KeptCursors {
+        KeptCursors {
+            most,
+            cursors: Vec::new(alloc),
+            section: Vec::new(alloc),
+            is_opening: false,
+        }
+    }
+
+    /// Lets a command be done. AllocError where it would open a cursor, and those that are open keep as much as they may already.
+    pub(crate) fn admit(
+        &mut self,
+        accepted: &Accepted<'_>,
+        statements: &Statements,
+    ) -> Result<(), AllocError> {
+        self.is_opening = matches!(accepted.command, Command::Opnqry);
+        if !self.is_opening {
+            return Ok(());
+        }
+        if self.bytes(statements) >= self.most {
+            return Err(AllocError);
+        }
+        self.section.clear();
+        self.section
+            .extend_from_slice(accepted.section().unwrap_or(&[]))?;
+        self.cursors.reserve(1)?;
+        Ok(())
+    }
+
+    /// The command was done: a cursor that it has opened, and that has rows left, is counted from now on.
+    pub(crate) fn note(&mut self, alloc: Global, statements: &Statements) {
+        if !self.is_opening {
+            return;
+        }
+        if let Ok(block) = statements.sections.next_block(&self.section, None, None) {
+            self.put(alloc, bytes_of(block.rows));
+        }
+    }
+
+    // The bytes that the open ones keep.
+    fn bytes(&self, statements: &Statements) -> usize {
+        let mut sum = 0usize;
+        for kept in self.cursors.as_slice() {
+            match statements.sections.next_block(&kept.section, None, None) {
+                Ok(_) => sum = sum.saturating_add(kept.bytes),
+                Err(_) => {}
+            }
+        }
+        sum
+    }
+
+    // The section's cursor keeps so many.
+    fn put(&mut self, alloc: Global, bytes: usize) {
+        for kept in self.cursors.iter_mut() {
+            if kept.section.as_slice() == self.section.as_slice() {
+                kept.bytes = bytes;
+                return;
+            }
+        }
+        let section = std::mem::replace(&mut self.section, Vec::new(alloc));
+        let _ = self.cursors.push(KeptCursor { section, bytes });
+    }
+}
+
+// The bytes of rows.
+fn bytes_of(rows: &RowList) -> usize {
+    let mut sum = 0usize;
+    for i in 0..rows.len() {
+        sum = sum.saturating_add(rows.row(i).bytes().len());
+    }
+    sum
+}

@@ -1,0 +1,32 @@
+//! Whether serving ends since the device has failed.
+
+use std::sync::atomic::{AtomicU64, Ordering};
+
+/// Whether serving ends since the device has failed.
+#[derive(Drop)]
+pub struct Failure {
+    // Whether a failure ends it.
+    ends: bool,
+    failed: AtomicU64,
+}
+
+impl Failure {
+    /// The device has not failed; a failure ends serving, or it does not.
+    pub fn new(ends: bool) -> Failure {
+        Failure {
+            ends,
+            failed: AtomicU64::new(0),
+        }
+    }
+
+    /// The device has failed. Answers whether that ends serving.
+    pub(crate) fn note(&self) -> bool {
+        self.failed.store(1, Ordering::SeqCst);
+        self.ends
+    }
+
+    /// Whether the device has failed, and that ends serving.
+    pub(crate) fn ends_serving(&self) -> bool {
+        self.ends && self.failed.load(Ordering::SeqCst) != 0
+    }
+}
