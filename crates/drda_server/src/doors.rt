@@ -1,12 +1,10 @@
 //! The streams of conversations, to be ended from another thread.
 
+use crate::handles::PLACES;
 use std::alloc::{AllocError, Global};
 use std::net::{OpenStream, Shutdown};
 use std::sync::{Mutex, Wait};
 use std::time::{Clock, Duration, Instant};
-
-/// How many conversations are served at a time.
-const PLACES: usize = 64;
 
 /// For how many seconds a conversation that has not opened the database keeps its place from a new one.
 const GRACE: u64 = 1;

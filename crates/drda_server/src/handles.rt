@@ -12,7 +12,7 @@ use std::io::{Read, Write};
 use std::thread::{PromisedHandle, Threads};
 
 /// How many conversations are served at a time.
-const PLACES: usize = 64;
+pub(crate) const PLACES: usize = 64;
 
 /// The thread that attends to a conversation.
 pub(crate) type Attendant<D, B, I, O> = PromisedHandle<Attended<O>, Attendance<D, B, I, O>>;

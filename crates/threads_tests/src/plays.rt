@@ -33,16 +33,6 @@ pub fn crashed(alloc: Global, core: Core, pick: u64) -> Option<Core> {
     }
 }
 
-/// How many units are in doubt.
-pub fn doubts_of(core: &Core) -> u64 {
-    let mut left = core.in_doubt();
-    let mut doubts = 0_u64;
-    while let Some(_) = left.next() {
-        doubts = doubts.saturating_add(1);
-    }
-    doubts
-}
-
 /// What is left when all have ended: how many waited for too long, whether each has given its leave back, and
 /// whether the device has failed.
 #[derive(Clone, Copy)]
@@ -54,6 +44,7 @@ pub struct Left {
 
 /// Of more conversations than these, each comes only when the one that came so many before it has ended: so none is turned away.
 const MANY: usize = 100;
+
 const AT_A_TIME: u64 = 32;
 
 /// Conversations that come one after the other, and are numbered from 1 on; and one more that comes again and

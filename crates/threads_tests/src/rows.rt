@@ -1,7 +1,7 @@
 //! What conversations say and where they wait for each other, a line each.
 
 use crate::cues::{cue_of, push_order};
-use crate::plays::{Core, crashed, doubts_of, fresh_core, play};
+use crate::plays::{Core, crashed, fresh_core, play};
 use crate::stages::Cue;
 use crate::talks::{Named, Talk, joined, pieces_of};
 use std::alloc::Global;
@@ -49,7 +49,10 @@ fn push_ends(alloc: Global, talks: &[Talk], out: &mut Vec<u8>) -> Option<()> {
 fn push_count(alloc: Global, talks: &[Talk], out: &mut Vec<u8>) -> Option<()> {
     let answered = talks.iter().filter(|talk| talk.end() == "answered").count();
     let all = talks.len();
-    push_text(out, &format!(in alloc; "; answered: {answered} of {all}").ok()?)
+    push_text(
+        out,
+        &format!(in alloc; "; answered: {answered} of {all}").ok()?,
+    )
 }
 
 impl<'r, R: Threads + Wait + Clock + Sync> Rows<'r, R> {
@@ -99,7 +102,11 @@ impl<'r, R: Threads + Wait + Clock + Sync> Rows<'r, R> {
             "cue" => self.cues.push(cue_of(rest)?).ok(),
             "order" => push_order(&mut self.cues, rest),
             "serve" | "crowd" => self.serve(verb == "crowd"),
-            "crash" => self.crash(rest.parse::<u64>().ok()?),
+            "crash" => {
+                let pick = rest.parse::<u64>().ok()?;
+                self.core = Some(crashed(self.alloc, self.core.take()?, pick)?);
+                Some(())
+            }
             _ => None,
         }
     }
@@ -122,17 +129,6 @@ impl<'r, R: Threads + Wait + Clock + Sync> Rows<'r, R> {
             self.talks.push(Talk::new(pieces, replies)).ok()?;
         }
         Some(())
-    }
-
-    // A crash, and how many units are in doubt in what is opened behind it.
-    fn crash(&mut self, pick: u64) -> Option<()> {
-        let core = crashed(self.alloc, self.core.take()?, pick)?;
-        let doubts = doubts_of(&core);
-        self.core = Some(core);
-        push_text(
-            &mut self.written,
-            &format!(in self.alloc; "  in doubt: {doubts}\n").ok()?,
-        )
     }
 
     // Serves the conversations over the core, and tells what became of them. Then there are none.

@@ -40,20 +40,12 @@ fn push_pieces(
     Some(())
 }
 
-// A name, and how often it is meant: `NAME`, or `NAME*TIMES`.
-fn times_of(word: &str) -> Option<(&str, u64)> {
-    match word.split_once('*') {
-        Some((name, times)) => Some((name, times.parse::<u64>().ok()?)),
-        None => Some((word, 1)),
-    }
-}
-
 /// The bytes of these names, each of which one read gives; of `NAME*TIMES` so many reads do.
 pub fn pieces_of(alloc: Global, named: &[Named], names: &str) -> Option<Vec<Vec<u8>>> {
     let mut pieces = Vec::new(alloc);
     for word in names.split_ascii_whitespace() {
-        let (name, times) = times_of(word)?;
-        for _ in 0..times {
+        let (name, times) = word.split_once('*').unwrap_or((word, "1"));
+        for _ in 0..times.parse::<u64>().ok()? {
             push_pieces(alloc, &mut pieces, named, name)?;
         }
     }
