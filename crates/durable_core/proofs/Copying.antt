@@ -1,5 +1,6 @@
 -- What copying the state makes of a core and of who reads: it stays recorded, and its pages can be read.
-use Rattle.std.proofs.Common.{◌≡◌, ◌⊎◌, inl, ℕ, ◌+◌, Bool, true, false, IsTrue, List, [], ◌∷◌, Result, Ok, Err, refl, sym, ◌∙◌, ap, subst}
+use Rattle.std.proofs.Common.{◌≡◌, ◌⊎◌, ℕ, ◌+◌, Bool, true, false, IsTrue, List, [], ◌∷◌, Result, Ok, Err, refl, sym, ◌∙◌, ap, subst}
+use Rattle.std.specs.Prelude.{IfOk}
 use Rattle.drda_disk.specs.Disk.{Life}
 use Rattle.drda_disk.proofs.Moments.{Stays-trans}
 use Rattle.unit_journal.specs.Journal.{room_of}
@@ -14,7 +15,9 @@ use Rattle.journal_recorder.specs.Recording.{disk_of, has_failed}
 use Rattle.journal_recorder.specs.declared.recorder.DiskRecorder.{DiskRecorder}
 use Rattle.recovery.specs.Journaled.{Journaled, shown_on}
 use Rattle.rdb_core.specs.Copied.{FailsOn, ReadsAlong, ReadsOn}
-use Rattle.durable_core.specs.Copying.{Copies, IsLooked}
+use Rattle.durable_core.specs.Copying.{Copies, IsLooked, told as told_of}
+use Rattle.durable_core.specs.declared.plain_error.PlainError.{PlainError}
+use Rattle.durable_core.specs.declared.plain_error.PlainError.TheVariants as none
 use Rattle.durable_core.specs.Recorded.{IsRecorded, core_on}
 use Rattle.durable_core.proofs.Recording.{Laws, RestsOn, no_faults, only_read, read_journaled, read_recorded, rests, some_fault}
 
@@ -51,11 +54,11 @@ module _ {D : Type 0} (modelled : Bool) (life : D → Life) where
   module _ (name : List ℕ) (laws : Laws life) (s : CoreState) (r : DiskRecorder D) (is : IsRecorded modelled life name s r) (going : has_failed r ≡ false) where
     pub record IsLeft {T : Type 0} (told : Result T ReadError) (new : CoreState) (after : DiskRecorder D) : Type 0 where
       pub recorded : IsRecorded modelled life name new after
-      pub copies : Copies modelled told (shown_on life (core_on name s r)) (shown_on life (core_on name new after))
+      pub copies : Copies modelled (told_of told) (shown_on life (core_on name s r)) (shown_on life (core_on name new after))
       pub journaled : Journaled modelled (shown_on life (core_on name s r)) (shown_on life (core_on name new after))
       pub pages : (tables : Tables) → HasPages modelled life r tables → HasPages modelled life after tables
 
-    quiet_left : {T : Type 0} (told : Result T ReadError) (after : DiskRecorder D) (quiet : IsQuiet r after) → Copies modelled told (shown_on life (core_on name s r)) (shown_on life (core_on name s after)) → IsLeft told s after
+    quiet_left : {T : Type 0} (told : Result T ReadError) (after : DiskRecorder D) (quiet : IsQuiet r after) → Copies modelled (told_of told) (shown_on life (core_on name s r)) (shown_on life (core_on name s after)) → IsLeft told s after
     quiet_left told after quiet copies = record {
       recorded = read_recorded modelled life name laws s r is going s refl after quiet.rests_on is.kept;
       copies = copies;
@@ -71,7 +74,7 @@ module _ {D : Type 0} (modelled : Bool) (life : D → Life) where
         let at_most = subst (λ (n : ℕ). ((life (disk_of after)).faults ≡ n + 1) ⊎ ((life (disk_of after)).faults ≡ n)) quiet.faults fails.at_most in
         record {
           recorded = read_recorded modelled life name laws s r is going s refl after rests_on is.kept;
-          copies = inl (record {
+          copies = record {
             going = going;
             name = refl;
             state = refl;
@@ -80,7 +83,7 @@ module _ {D : Type 0} (modelled : Bool) (life : D → Life) where
             faults = some_fault modelled true (life (disk_of r)).faults (life (disk_of after)).faults refl faults at_most;
             failed = fails.failed;
             made = rests_on.made;
-          });
+          };
           journaled = read_journaled modelled life name laws s r is going s refl after rests_on (some_fault modelled (has_failed after) (life (disk_of r)).faults (life (disk_of after)).faults fails.failed faults at_most);
           pages = λ tables has. fails.pages tables (quiet.pages tables has);
         }
@@ -96,3 +99,9 @@ module _ {D : Type 0} (modelled : Bool) (life : D → Life) where
     -- however it comes out
     pub left_by : {T : Type 0} (told : Result T ReadError) (new : CoreState) → new ≡ s → (after : DiskRecorder D) → LeavesReader (ReadsOn (Reads modelled life)) (FailsOn (Reads modelled life) (FailsToRead modelled life)) r told after → IsLeft told new after
     left_by told new same after made = subst (λ (x : CoreState). IsLeft told x after) (sym same) (all_left told after made)
+
+-- a copy that is told is the one that was made
+pub told_copy : {T : Type 0} (P : T → Type 0) (r : Result T ReadError) (told : Result T PlainError) → told ≡ told_of r → IfOk r P → IfOk told P
+told_copy P (Ok x) told same h = subst (λ (o : Result _ PlainError). IfOk o P) (sym same) h
+told_copy P (Err error.NoMemory) told same h = subst (λ (o : Result _ PlainError). IfOk o P) (sym same) tt
+told_copy P (Err error.DeviceFailed) told same h = subst (λ (o : Result _ PlainError). IfOk o P) (sym same) tt

@@ -5,12 +5,12 @@ ghost use Rattle.core_calls.specs.Answer.{answer_of};
 ghost use Rattle.core_calls.specs.Call.{call_of};
 ghost use Rattle.unit_records.specs.Phases.{is_ready};
 ghost use Rattle.xa_manager.specs.Branch.{in_doubt_xids};
-ghost use Rattle.rdb_core.specs.InDoubt.{xids_left};
+ghost use Rattle.rdb_core.specs.InDoubt.{branches_left, in_doubt_branches, xids_left};
 ghost use Rattle.recovery.specs.Journaled.{IsDurable, Journaled, shown_on};
 ghost use Rattle.durable_core.specs.Copying.{Copies};
 ghost use Rattle.durable_core.specs.Steps.{Loses, Steps};
 
-use ahead_view::ReadError;
+use crate::plain_error::{PlainError, told};
 use core_calls::{Answer, CoreCall};
 use drda_disk::Disk;
 use journal_recorder::{DiskRecorder, pages_are_kept};
@@ -126,18 +126,19 @@ impl<D: Disk> DurableCore<D> {
         self.core.is_ready(phase, xid)
     }
 
-    /// The XIDs in doubt, by rising bytes. Takes no memory.
+    /// The XIDs in doubt, each with its state, by rising bytes. Takes no memory.
     pub fn in_doubt(&self) -> InDoubt<'_>
-        ensures { xids_left result ≡ in_doubt_xids self.now.state.branches }
+        ensures xids { xids_left result ≡ in_doubt_xids self.now.state.branches }
+        ensures branches { branches_left result ≡ in_doubt_branches self.now.state.branches }
     {
         self.core.in_doubt()
     }
 
     /// A copy of the whole state as plain lists: the committed tables, of which all rows are read, the units that
     /// have work, and the branches. Nothing is recorded, and the state changes in no case. Memory may be refused.
-    /// `DeviceFailed` comes in the call in which the device fails, or gives what is no page, and in each call
-    /// behind one in which it failed, which makes no device call.
-    pub fn plain(&mut self) -> Result<PlainState, ReadError>
+    /// `DeviceFailed` comes in the call in which the device fails, or gives what is no page, and `Closed` in each
+    /// call behind one in which it failed, which makes no device call.
+    pub fn plain(&mut self) -> Result<PlainState, PlainError>
         ensures told { IsTrue D.is_modelled → IfOk result (λ plain. plain ≡ self.old.state) }
         ensures copies { Copies D.is_modelled result (shown_on D.life self.old) (shown_on D.life self.new) }
         ensures journaled { Journaled D.is_modelled (shown_on D.life self.old) (shown_on D.life self.new) }
@@ -147,9 +148,9 @@ impl<D: Disk> DurableCore<D> {
         calls_make_records::<D>();
         let recorder = self.core.recorder();
         if recorder.is_failed() {
-            return Err(ReadError::DeviceFailed);
+            return Err(PlainError::Closed);
         }
-        self.core.plain()
+        told(self.core.plain())
     }
 
     /// The disk, as the last call left it.

@@ -30,7 +30,8 @@ returns-clause-copies g c =
     let is_left = left_by g.D.Disk.is_modelled g.D.Disk.life (string_bytes c.self.inside.name)
     (record { held_for_doubts = c.doubts_hold_their_decisions.ensures; records_stay = c.records_stay.ensures; calls_made = c.calls_make_records.ensures })
     (state_of c.self.inside.core) (recorder_of c.self.inside.core) c.self.invariant.0 going c.plain.result (state_of c.plain.new.self) c.plain.ensures.state (recorder_of c.plain.new.self) c.plain.ensures.recorder in
-    subst (λ (old : OnDisk g.row.D.Denot). Copies g.D.Disk.is_modelled c.plain.result (shown_on g.D.Disk.life old) (shown_on g.D.Disk.life (core_on (string_bytes c.self.inside.name) (state_of c.plain.new.self) (recorder_of c.plain.new.self)))) c.self.view_is is_left.copies
+    subst (λ (old : OnDisk g.row.D.Denot). Copies g.D.Disk.is_modelled c.told.result (shown_on g.D.Disk.life old) (shown_on g.D.Disk.life (core_on (string_bytes c.self.inside.name) (state_of c.plain.new.self) (recorder_of c.plain.new.self)))) c.self.view_is
+    (subst (λ r. Copies g.D.Disk.is_modelled r (shown_on g.D.Disk.life (core_on (string_bytes c.self.inside.name) (state_of c.self.inside.core) (recorder_of c.self.inside.core))) (shown_on g.D.Disk.life (core_on (string_bytes c.self.inside.name) (state_of c.plain.new.self) (recorder_of c.plain.new.self)))) (sym c.told.ensures) is_left.copies)
 
 pub returns-clause-journaled : goal.returns-clause-journaled
 returns-clause-journaled g c =
