@@ -166,8 +166,8 @@ fn begin<D: Disk, B: Origin<D>, R: Wait + Clock, G: Gate, L: Log, K: OpenStream 
 }
 
 // No stream comes any more. Where that is so since the device has failed, what is under way is given a moment, and each stream is ended.
-fn end<D: Disk, R: Wait + Clock, G: Gate, L: Log, K: OpenStream + Drop>(
-    hall: &Hall<'_, D, R, G, L, K>,
+fn end<D: Disk, B: Origin<D>, R: Wait + Clock, G: Gate, L: Log, K: OpenStream + Drop>(
+    hall: &Hall<'_, D, B, R, G, L, K>,
 ) {
     if hall.failure.ends_serving() {
         hall.log.tell(Notice::EndsFailed);

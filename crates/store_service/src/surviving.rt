@@ -10,10 +10,9 @@ ghost use Rattle.store_service.specs.Running.{IsRefusal, IsSettledStore};
 ghost use Rattle.store_service.specs.Surviving.{Survives};
 
 use crate::running::run_store;
-use ahead_view::ReadError;
 use drda_disk::{FuseDisk, MemDisk};
 use drda_node::{DurableCore, RunEnd, open};
-use durable_core::OpenError;
+use durable_core::{OpenError, PlainError};
 use rdb_core::PlainState;
 use std::alloc::Global;
 
@@ -65,7 +64,7 @@ fn plain_of(core: &mut DurableCore<MemDisk>) -> Result<PlainState, OpenError>
 {
     match core.plain() {
         Ok(plain) => Ok(plain),
-        Err(ReadError::NoMemory) => Err(OpenError::NoMemory),
-        Err(ReadError::DeviceFailed) => Err(OpenError::DeviceFailed),
+        Err(PlainError::NoMemory) => Err(OpenError::NoMemory),
+        Err(PlainError::DeviceFailed | PlainError::Closed) => Err(OpenError::DeviceFailed),
     }
 }
