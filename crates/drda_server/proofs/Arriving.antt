@@ -6,7 +6,7 @@ use Rattle.drda_disk.specs.Disk.{Life}
 use Rattle.recovery.specs.Journaled.{OnDisk}
 use Rattle.session_commands.specs.Settings.{Settings}
 use Rattle.command_line.specs.declared.job.ServeOptions.{ServeOptions}
-use Rattle.drda_server.specs.Listening.{IsLetIn, LetsNext, ServesStreams, most}
+use Rattle.drda_server.specs.Listening.{IsLetIn, LetsNext, MayStop, ServesStreams, most}
 use Rattle.drda_server.specs.Network.{ClosesAtOnce, FailsToLetIn, NetworkCalls}
 use Rattle.drda_server.specs.Threads.{Came, Given, IsAttended, IsTurnedAway, ServesAll}
 use Rattle.core_history.specs.declared.pass.Pass.{Pass}
@@ -17,13 +17,13 @@ all_both P (x ∷ xs) ys each more = (each.0, all_both P xs ys each.1 more)
 
 -- ---- the wait for one
 
-module _ {N L S W : Type 0} (calls : NetworkCalls N L S W) (listener : L) (idle : Option ℕ) where
-  -- after so many turns these streams were closed at once, and so many may still come, of those that might; or letting one in has failed
+module _ {N L S W : Type 0} (calls : NetworkCalls N L S W) (listener : L) (idle : Option ℕ) (ends : Bool) where
+  -- after so many turns these streams were closed at once, and so many may still come, of those that might; or fewer may come
   pub record HasWaited (left now turns : ℕ) : Type 0 where
     pub closed : List S
     pub closes : AllByRecursion (ClosesAtOnce calls listener idle) closed
-    pub left_are : (left ≡ length closed + now) ⊎ ((now ≡ 0) × (length closed ≤ left) × FailsToLetIn calls listener)
-    pub turns_are : FailsToLetIn calls listener ⊎ (length closed ≡ turns)
+    pub left_are : (left ≡ length closed + now) ⊎ ((now ≡ 0) × (length closed ≤ left) × MayStop calls ends listener)
+    pub turns_are : MayStop calls ends listener ⊎ (length closed ≡ turns)
 
   one_closed : (left now now' turns : ℕ) → HasWaited left now turns → (stream : S) × ClosesAtOnce calls listener idle stream → now ≡ now' + 1 → HasWaited left now' (turns + 1)
   one_closed left now now' turns w one is = record {
@@ -39,7 +39,7 @@ module _ {N L S W : Type 0} (calls : NetworkCalls N L S W) (listener : L) (idle 
     ];
   }
 
-  one_failed : (left now now' turns : ℕ) → HasWaited left now turns → FailsToLetIn calls listener → (now' ≡ now) ⊎ (now' ≡ 0) → HasWaited left now' (turns + 1)
+  one_failed : (left now now' turns : ℕ) → HasWaited left now turns → MayStop calls ends listener → (now' ≡ now) ⊎ (now' ≡ 0) → HasWaited left now' (turns + 1)
   one_failed left now now' turns w fails how = record {
     closed = w.closed;
     closes = w.closes;
@@ -61,30 +61,34 @@ module _ {N L S W : Type 0} (calls : NetworkCalls N L S W) (listener : L) (idle 
   }
 
   -- the same, in a loop whose state has another name behind each turn
-  pub closed_then : (l' l'' : L) (i' i'' : Option ℕ) (left now mid now' turns : ℕ) → (l' ≡ listener) × (i' ≡ idle) × HasWaited left now turns → l'' ≡ l' → i'' ≡ i' → now' ≡ mid → (1 ≤ now) × (mid ≡ now - 1)
-      → (stream : S) × ClosesAtOnce calls l' i' stream → (l'' ≡ listener) × (i'' ≡ idle) × HasWaited left now' (turns + 1)
-  closed_then l' l'' i' i'' left now mid now' turns so_far same stays is one stream =
+  pub closed_then : (l' l'' : L) (i' i'' : Option ℕ) (e' e'' : Bool) (left now mid now' turns : ℕ) → (l' ≡ listener) × (i' ≡ idle) × (e' ≡ ends) × HasWaited left now turns → l'' ≡ l' → i'' ≡ i' → e'' ≡ e' → now' ≡ mid → (1 ≤ now) × (mid ≡ now - 1)
+      → (stream : S) × ClosesAtOnce calls l' i' stream → (l'' ≡ listener) × (i'' ≡ idle) × (e'' ≡ ends) × HasWaited left now' (turns + 1)
+  closed_then l' l'' i' i'' e' e'' left now mid now' turns so_far same stays goes is one stream =
       let its = subst (λ (l : L). (x : S) × ClosesAtOnce calls l idle x) so_far.0 (subst (λ (i : Option ℕ). (x : S) × ClosesAtOnce calls l' i x) so_far.1 stream) in
       let less : (1 ≤ now) × (mid ≡ now - 1) = one in
-      (same ∙ so_far.0, stays ∙ so_far.1, one_closed left now now' turns so_far.2 its (omega (arith, less, is)))
+      (same ∙ so_far.0, stays ∙ so_far.1, goes ∙ so_far.2, one_closed left now now' turns so_far.3 its (omega (arith, less, is)))
 
-  pub failed_then : (l' l'' : L) (i' i'' : Option ℕ) (left now now' turns : ℕ) → (l' ≡ listener) × (i' ≡ idle) × HasWaited left now turns → l'' ≡ l' → i'' ≡ i' → (now' ≡ now) ⊎ (now' ≡ 0) → FailsToLetIn calls l'
-      → (l'' ≡ listener) × (i'' ≡ idle) × HasWaited left now' (turns + 1)
-  failed_then l' l'' i' i'' left now now' turns so_far same stays how fails =
-      (same ∙ so_far.0, stays ∙ so_far.1, one_failed left now now' turns so_far.2 (subst (λ (l : L). FailsToLetIn calls l) so_far.0 fails) how)
+  pub failed_then : (l' l'' : L) (i' i'' : Option ℕ) (e' e'' : Bool) (left now now' turns : ℕ) → (l' ≡ listener) × (i' ≡ idle) × (e' ≡ ends) × HasWaited left now turns → l'' ≡ l' → i'' ≡ i' → e'' ≡ e' → (now' ≡ now) ⊎ (now' ≡ 0) → FailsToLetIn calls l'
+      → (l'' ≡ listener) × (i'' ≡ idle) × (e'' ≡ ends) × HasWaited left now' (turns + 1)
+  failed_then l' l'' i' i'' e' e'' left now now' turns so_far same stays goes how fails =
+      (same ∙ so_far.0, stays ∙ so_far.1, goes ∙ so_far.2, one_failed left now now' turns so_far.3 (inl (subst (λ (l : L). FailsToLetIn calls l) so_far.0 fails)) how)
 
 -- ---- all that came
 
-module _ {N L S W : Type 0} (calls : NetworkCalls N L S W) {T : Type 0} (listener : T → L) (idle : T → Option ℕ) (left : T → ℕ) where
+module _ {N L S W : Type 0} (calls : NetworkCalls N L S W) {T : Type 0} (listener : T → L) (idle : T → Option ℕ) (stops : T → Bool) (left : T → ℕ) where
   -- what a call of `next` comes to
   abbrev pub Lets : T → Option (S × W) → T → Type 0
-  Lets old given new = LetsNext calls (listener old) (idle old) (left old) given (listener new) (idle new) (left new)
+  Lets old given new = LetsNext calls (listener old) (idle old) (stops old) (left old) given (listener new) (idle new) (stops new) (left new)
 
   module _ (Away : Type 0) (Is : Pass → S → W → Type 0) where
     -- the listener and the limit stay
     stay : (streams : List (Given S W)) (first last : T) → Came Away Is Lets streams first last → (listener last ≡ listener first) × (idle last ≡ idle first)
     stay [] first last came = (ap listener came, ap idle came)
     stay (given ∷ more) first last (next, lets, came) = let rest = stay more next last came in (rest.0 ∙ lets.listener_stays, rest.1 ∙ lets.idle_stays)
+
+    goes_on : (streams : List (Given S W)) (first last : T) → Came Away Is Lets streams first last → stops last ≡ stops first
+    goes_on [] first last came = ap stops came
+    goes_on (given ∷ more) first last (next, lets, came) = goes_on more next last came ∙ lets.ends_stays
 
     of_first : (P : L → Option ℕ → Type 0) (first now : T) → (listener now ≡ listener first) × (idle now ≡ idle first) → P (listener now) (idle now) → P (listener first) (idle first)
     of_first P first now same is = subst (λ (l : L). P l (idle first)) same.0 (subst (λ (i : Option ℕ). P (listener now) i) same.1 is)
@@ -114,13 +118,13 @@ module _ {N L S W : Type 0} (calls : NetworkCalls N L S W) {T : Type 0} (listene
           count = omega (arith, count, one, length-append lets.closed rest.closed);
         }
 
-  -- as many have come as were asked for, or letting one in has failed
-  abbrev Ends : L → ℕ → ℕ → Type 0
-  Ends l came all = (came ≡ all) ⊎ ((came ≤ all) × FailsToLetIn calls l)
+  -- as many have come as were asked for, or fewer might
+  abbrev Ends : Bool → L → ℕ → ℕ → Type 0
+  Ends e l came all = (came ≡ all) ⊎ ((came ≤ all) × MayStop calls e l)
 
-  ends : (l : L) (all came closed last : ℕ) → all ≡ came + last → (last ≡ closed) ⊎ ((closed ≤ last) × FailsToLetIn calls l) → Ends l (came + closed) all
-  ends l all came closed last is (inl so) = inl (omega (arith, is, so))
-  ends l all came closed last is (inr halted) = let few : closed ≤ last = halted.0 in inr (omega (arith, is, few), halted.1)
+  ends : (e : Bool) (l : L) (all came closed last : ℕ) → all ≡ came + last → (last ≡ closed) ⊎ ((closed ≤ last) × MayStop calls e l) → Ends e l (came + closed) all
+  ends e l all came closed last is (inl so) = inl (omega (arith, is, so))
+  ends e l all came closed last is (inr halted) = let few : closed ≤ last = halted.0 in inr (omega (arith, is, few), halted.1)
 
   module _ {D : Type 0} (modelled : Bool) (life : D → Life) (origin : OnDisk D → Type 0) (remaining : S → Option (List ℕ)) (contents : W → Option (List ℕ)) (settings : Settings) (options : ServeOptions) where
     abbrev Away : Type 0
@@ -129,14 +133,16 @@ module _ {N L S W : Type 0} (calls : NetworkCalls N L S W) {T : Type 0} (listene
     abbrev Is : Pass → S → W → Type 0
     Is = IsAttended modelled life origin remaining contents settings
 
-    of_listener : (first : T) → ServesAll Away Is Lets first → left first ≡ most options.count → idle first ≡ options.idle → ServesStreams calls modelled life origin remaining contents settings options (listener first)
-    of_listener first all its_count its_idle =
+    of_listener : (first : T) → ServesAll Away Is Lets first → left first ≡ most options.count → idle first ≡ options.idle → stops first ≡ options.ends_when_failed → ServesStreams calls modelled life origin remaining contents settings options (listener first)
+    of_listener first all its_count its_idle its_stop =
         let so_far = all_closed Away Is all.streams first all.last all.came in
         let same = stay Away Is all.streams first all.last all.came in
         let last = all.no_more in
         let closed : List S = so_far.closed ++ last.closed in
-        let next : (left all.last ≡ length last.closed) ⊎ ((length last.closed ≤ left all.last) × FailsToLetIn calls (listener first)) =
-        subst (λ (l : L). (left all.last ≡ length last.closed) ⊎ ((length last.closed ≤ left all.last) × FailsToLetIn calls l)) same.0 last.next in
+        let stop : stops all.last ≡ options.ends_when_failed = goes_on Away Is all.streams first all.last all.came ∙ its_stop in
+        let next : (left all.last ≡ length last.closed) ⊎ ((length last.closed ≤ left all.last) × MayStop calls options.ends_when_failed (listener first)) =
+        subst (λ (e : Bool). (left all.last ≡ length last.closed) ⊎ ((length last.closed ≤ left all.last) × MayStop calls e (listener first))) stop
+        (subst (λ (l : L). (left all.last ≡ length last.closed) ⊎ ((length last.closed ≤ left all.last) × MayStop calls (stops all.last) l)) same.0 last.next) in
         let came : length all.streams + length closed ≡ (length all.streams + length so_far.closed) + length last.closed = omega (arith, length-append so_far.closed last.closed) in
         record {
           streams = all.streams;
@@ -148,12 +154,12 @@ module _ {N L S W : Type 0} (calls : NetworkCalls N L S W) {T : Type 0} (listene
               (all_both (ClosesAtOnce calls (listener first) (idle first)) so_far.closed last.closed so_far.closes
               (of_first Away Is (λ l i. AllByRecursion (ClosesAtOnce calls l i) last.closed) first all.last same last.closes));
           count =
-              subst (λ (n : ℕ). Ends (listener first) n (most options.count)) (sym came)
-              (subst (λ (n : ℕ). Ends (listener first) ((length all.streams + length so_far.closed) + length last.closed) n) its_count
-              (ends (listener first) (left first) (length all.streams + length so_far.closed) (length last.closed) (left all.last) so_far.count next));
+              subst (λ (n : ℕ). Ends options.ends_when_failed (listener first) n (most options.count)) (sym came)
+              (subst (λ (n : ℕ). Ends options.ends_when_failed (listener first) ((length all.streams + length so_far.closed) + length last.closed) n) its_count
+              (ends options.ends_when_failed (listener first) (left first) (length all.streams + length so_far.closed) (length last.closed) (left all.last) so_far.count next));
         }
 
-    pub served_streams : (first : T) (l : L) (count : ℕ) → listener first ≡ l → idle first ≡ options.idle → left first ≡ count → count ≡ unwrap_or options.count (2 ^ 64 - 1)
+    pub served_streams : (first : T) (l : L) (count : ℕ) → listener first ≡ l → idle first ≡ options.idle → stops first ≡ options.ends_when_failed → left first ≡ count → count ≡ unwrap_or options.count (2 ^ 64 - 1)
         → ServesAll Away Is Lets first → ServesStreams calls modelled life origin remaining contents settings options l
-    served_streams first l count its_listener its_idle its_count is all =
-        subst (λ (z : L). ServesStreams calls modelled life origin remaining contents settings options z) its_listener (of_listener first all (its_count ∙ is) its_idle)
+    served_streams first l count its_listener its_idle its_stop its_count is all =
+        subst (λ (z : L). ServesStreams calls modelled life origin remaining contents settings options z) its_listener (of_listener first all (its_count ∙ is) its_idle its_stop)

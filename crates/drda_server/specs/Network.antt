@@ -39,7 +39,7 @@ module _ {N L S W : Type 0} (calls : NetworkCalls N L S W) where
   -- they could not be limited
   abbrev pub IsNotLimited : N → S → Option ℕ → N → Type 0
   IsNotLimited net stream None net' = ⊥
-  IsNotLimited net stream (Some seconds) net' = calls.limits net stream seconds None net'
+  IsNotLimited net stream (Some seconds) net' = calls.limits net stream seconds None net' ⊎ ((mid : N) × calls.limits net stream seconds (Some tt) mid × calls.limits_writes mid stream seconds None net')
 
   -- letting a stream in has failed
   abbrev pub FailsToLetIn : L → Type 0

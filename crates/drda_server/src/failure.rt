@@ -1,5 +1,7 @@
 //! Whether serving ends since the device has failed.
 
+ghost use Rattle.std.specs.Prelude.{◌≡◌, true};
+
 use std::sync::atomic::{AtomicU64, Ordering};
 
 /// Whether serving ends since the device has failed.
@@ -12,7 +14,9 @@ pub struct Failure {
 
 impl Failure {
     /// The device has not failed; a failure ends serving, or it does not.
-    pub fn new(ends: bool) -> Failure {
+    pub fn new(ends: bool) -> Failure
+        ensures { result.ends ≡ ends }
+    {
         Failure {
             ends,
             failed: AtomicU64::new(0),
@@ -26,7 +30,9 @@ impl Failure {
     }
 
     /// Whether the device has failed, and that ends serving.
-    pub(crate) fn ends_serving(&self) -> bool {
+    pub(crate) fn ends_serving(&self) -> bool
+        ensures { result ≡ true → self.now.ends ≡ true }
+    {
         self.ends && self.failed.load(Ordering::SeqCst) != 0
     }
 }

@@ -38,6 +38,7 @@ impl<'a, N: Network> LetIn<'a, N> {
         ensures listener { result.listener.now ≡ listener.now }
         ensures idle { result.idle ≡ idle }
         ensures count { result.left ≡ count }
+        ensures failure { result.failure.now ≡ failure.now }
     {
         LetIn {
             net,
@@ -63,16 +64,15 @@ impl<N: Network> Streams for LetIn<'_, N> {
 
     type Writer = N::Writer;
 
-    ghost gives = { λ old given new. LetsNext N.calls old.listener.now old.idle old.left given new.listener.now new.idle new.left };
+    ghost gives = { λ old given new. LetsNext N.calls old.listener.now old.idle old.failure.now.ends old.left given new.listener.now new.idle new.failure.now.ends new.left };
 
     fn next(&mut self) -> Option<(N::Stream, N::Writer)> {
         for _ in 0..u64::MAX {
             if self.failure.ends_serving() {
-                self.end();
+                return self.stop();
             }
             let left = self.left.checked_sub(1)?;
             match let_in(self.net, self.listener, self.idle) {
-                Ok(_) if self.failure.ends_serving() => self.end(),
                 Ok(Some(given)) => {
                     self.left = left;
                     self.failures = 0;
@@ -82,8 +82,7 @@ impl<N: Network> Streams for LetIn<'_, N> {
                     self.left = left;
                     self.failures = 0;
                 }
-                Err(error) if error.kind() == ErrorKind::WouldBlock => {}
-                Err(_) => self.bear_failure(),
+                Err(error) => self.bear_failure(&error),
             }
         }
         self.end();
@@ -100,14 +99,19 @@ impl<N: Network> Streams for LetIn<'_, N> {
 }
 
 impl<N: Network> LetIn<'_, N> {
-    ghost use Rattle.std.specs.Prelude.{◌≡◌, ◌⊎◌};
+    ghost use Rattle.std.specs.Prelude.{◌≡◌, ◌⊎◌, None};
 
-    // Letting a stream in has failed. Mostly that passes, as where the system is short of something for a while.
-    fn bear_failure(&mut self)
+    // Letting a stream in has failed. Mostly that passes, as where the system is short of something for a while; where none came in time it
+    // was no failure.
+    fn bear_failure(&mut self, error: &io::Error)
         ensures left { (self.new.left ≡ self.old.left) ⊎ (self.new.left ≡ 0) }
         ensures listener { self.new.listener ≡ self.old.listener }
         ensures idle { self.new.idle ≡ self.old.idle }
+        ensures failure { self.new.failure ≡ self.old.failure }
     {
+        if error.kind() == ErrorKind::WouldBlock {
+            return;
+        }
         self.failures = self.failures.saturating_add(1);
         if self.failures < MOST_FAILURES {
             self.net.pause();
@@ -121,9 +125,21 @@ impl<N: Network> LetIn<'_, N> {
         ensures left { self.new.left ≡ 0 }
         ensures listener { self.new.listener ≡ self.old.listener }
         ensures idle { self.new.idle ≡ self.old.idle }
+        ensures failure { self.new.failure ≡ self.old.failure }
     {
         self.has_failed = true;
         self.left = 0;
+    }
+
+    // Serving ends, and none is let in any more.
+    fn stop(&mut self) -> Option<(N::Stream, N::Writer)>
+        ensures none { result ≡ None }
+        ensures listener { self.new.listener ≡ self.old.listener }
+        ensures idle { self.new.idle ≡ self.old.idle }
+        ensures failure { self.new.failure ≡ self.old.failure }
+    {
+        self.end();
+        None
     }
 }
 
