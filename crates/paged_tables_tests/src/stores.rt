@@ -5,7 +5,7 @@ use crate::given::Given;
 use crate::held::{Held, STORE_BYTES};
 use crate::lent::count_lent;
 use ahead_view::Wanted;
-use drda_disk::{FuseDisk, MemDisk};
+use drda_disk::{Disk, FuseDisk, MemDisk};
 use half_store::{Active, format, open};
 use paged_tables::PagedTables;
 use row_pages::{PageCache, Pager};
@@ -25,16 +25,21 @@ pub struct Stores {
     copies: Vec<Change>,
 }
 
+// A pager that keeps two pages of a disk. None without memory.
+fn pager_over<D: Disk + Drop>(alloc: Global, disk: D) -> Option<Pager<D>> {
+    match PageCache::new(alloc, 2) {
+        Ok(cache) => Some(Pager::over(disk, cache)),
+        Err(_) => None,
+    }
+}
+
 // A disk with an empty store, as it is opened, which fails behind so many calls and keeps two pages.
 fn new_store(alloc: Global, calls: u64) -> Option<(Pager<FuseDisk<MemDisk>>, Active)> {
-    let cache = PageCache::new(alloc, 2).ok()?;
     let mut disk = MemDisk::new(alloc, STORE_BYTES).ok()?;
     format(alloc, &mut disk, "TEST").ok()?;
     let active = open(alloc, &mut disk).ok()?;
-    Some((
-        Pager::over(FuseDisk::new(disk, calls, false), cache),
-        active,
-    ))
+    let pager = pager_over(alloc, FuseDisk::new(disk, calls, false))?;
+    Some((pager, active))
 }
 
 // A store with one table of this name.

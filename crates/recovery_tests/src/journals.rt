@@ -226,8 +226,9 @@ fn signs(alloc: Global, units: &[PreparedUnit]) -> Result<String, AllocError> {
 fn row_count(alloc: Global, store: &PagedTables) -> Option<usize>
     requires { LieInside 0 store.now.tables }
 {
+    let disk = MemDisk::new(alloc, 0).ok()?;
     let cache = PageCache::new(alloc, 1).ok()?;
-    let mut pager = Pager::over(MemDisk::new(alloc, 0).ok()?, cache);
+    let mut pager = Pager::over(disk, cache);
     let rows = store.rows(alloc, &mut pager, "T").ok()?;
     Some(rows.len())
 }
