@@ -26,7 +26,7 @@ Schema = namedtuple("Schema", "columns key")
 # A unit in doubt; of one that was decided heuristically there is the outcome alone.
 Unit = namedtuple("Unit", "changes claims outcome", defaults=[None])
 # What opens: tables by name, each a schema and its rows by keys; units in doubt by XIDs; the bytes that are left for records.
-Store = namedtuple("Store", "name tables doubts room")
+Store = namedtuple("Store", "name tables doubts room journal half")
 
 
 class NotAStore(Exception):
@@ -369,7 +369,13 @@ def opened(image):
     room = end - closed - 1 - sum(held_for(half.layout, *one) for one in doubts.items())
     if room < 0:
         raise Damaged(max(holders[xid] for xid in doubts))
-    return Store(name.decode(), tables, dict(sorted(doubts.items())), room)
+    return Store(name.decode(), tables, dict(sorted(doubts.items())), room, end - begin, size)
+
+
+def room_lines(store, size):
+    """What `drdad room` tells of a file of so many bytes."""
+    full = f"room {store.room} of {store.journal}\ntables {store.half - store.journal} of {store.half}"
+    return f"name {store.name}\nsize {size}\n{full}\nindoubt {len(store.doubts)}\n"
 
 
 def doubt_lines(doubts):

@@ -9,6 +9,7 @@
 --   drdad check PATH
 --   drdad tables PATH
 --   drdad dump PATH
+--   drdad grow PATH NEW --size N
 --   drdad version
 use Rattle.std.specs.Prelude.{◌≡◌, true, false, List, [], ◌∷◌, Option, Some, codes}
 use Rattle.clap.specs.declared.builder.action.ArgAction.TheVariants.{SetTrue}
@@ -73,6 +74,9 @@ tables = with_rule (new_app (codes "tables")) (needed_word (codes "path"))
 abbrev pub dump : App
 dump = with_rule (new_app (codes "dump")) (needed_word (codes "path"))
 
+abbrev pub grow : App
+grow = with_rule (with_rule (with_rule (new_app (codes "grow")) (needed_word (codes "path"))) (needed_word (codes "new"))) (needed_option (codes "size"))
+
 abbrev pub version : App
 version = new_app (codes "version")
 
@@ -89,7 +93,7 @@ abbrev pub telling : App
 telling = with_subcommand (with_subcommand (with_subcommand (with_subcommand serving decide.top) room.top) check.top) tables.top
 
 abbrev pub drdad : App
-drdad = with_subcommand (with_subcommand telling dump.top) version.top
+drdad = with_subcommand (with_subcommand (with_subcommand telling dump.top) grow.top) version.top
 
 -- what is wrong with the words
 unfoldable pub faults : List Text → Kinds

@@ -38,6 +38,8 @@ pub data Job : Type 0 where
   check : Text → Job
   tables : Text → Job
   dump : Text → Job
+  -- the path, that of the new file, and its size
+  grow : Text → Text → ℕ → Job
   version : Job
 
 abbrev pub plain_login : CodeLogin → Login
@@ -57,6 +59,7 @@ plain_job (code.Room path) = room path.now
 plain_job (code.Check path) = check path.now
 plain_job (code.Tables path) = tables path.now
 plain_job (code.Dump path) = dump path.now
+plain_job (code.Grow path new size) = grow path.now new.now size
 plain_job code.Version = version
 
 -- ---- what texts say
@@ -172,6 +175,10 @@ tables_by path = option_map (λ (p : Text). tables p) path
 abbrev pub dump_by : Option Text → Option Job
 dump_by path = option_map (λ (p : Text). dump p) path
 
+abbrev pub grow_by : Option Text → Option Text → Option Text → Option Job
+grow_by (Some path) (Some new) (Some size) = option_map (λ (n : ℕ). grow path new n) (number_in size)
+grow_by path new size = None
+
 -- ---- what words say
 
 abbrev pub value : List Row → Text → Option Text
@@ -188,7 +195,8 @@ said_to name rows =
     else (if bytes_eq name (codes "check") then check_by (value rows (codes "path"))
     else (if bytes_eq name (codes "tables") then tables_by (value rows (codes "path"))
     else (if bytes_eq name (codes "dump") then dump_by (value rows (codes "path"))
-    else (if bytes_eq name (codes "version") then Some version else None)))))))))
+    else (if bytes_eq name (codes "grow") then grow_by (value rows (codes "path")) (value rows (codes "new")) (value rows (codes "size"))
+    else (if bytes_eq name (codes "version") then Some version else None))))))))))
 
 abbrev pub said_by : Kinds → Option (Text × List Row) → Option Job
 said_by [] (Some sub) = said_to sub.0 sub.1

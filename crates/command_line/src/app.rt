@@ -111,6 +111,20 @@ static SERVE: [Word<'static>; 10] = [
     },
 ];
 
+static GROW: [Word<'static>; 3] = [
+    STORE,
+    Word {
+        id: "new",
+        kind: Kind::NeededWord,
+        help: "The file that is made; none may be there",
+    },
+    Word {
+        id: "size",
+        kind: Kind::NeededOption("N"),
+        help: "Its bytes, as many as the store has at least, and 1073741824 at most",
+    },
+];
+
 static STORE_ALONE: [Word<'static>; 1] = [STORE];
 
 static NOTHING: [Word<'static>; 0] = [];
@@ -220,6 +234,11 @@ pub(crate) fn drdad<'a>(alloc: Global) -> Result<Command<'a>, AllocError>
                 name: "dump",
                 about: "Prints the SQL that makes the tables of a store anew",
                 words: &STORE_ALONE,
+            },
+            Subcommand {
+                name: "grow",
+                about: "Moves a store into a new and larger file",
+                words: &GROW,
             },
             Subcommand {
                 name: "version",

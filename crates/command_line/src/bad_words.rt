@@ -39,6 +39,7 @@ pub(crate) fn tell_bad_word(matches: &ArgMatches<'_>, said: &mut String) {
         "pipe" => tell_of_login(given, said),
         "serve" => tell_of_serve(given, said),
         "decide" => tell_of_decide(given, said),
+        "grow" => tell_of_init(given, said),
         _ => {}
     }
 }

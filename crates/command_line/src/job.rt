@@ -91,6 +91,12 @@ pub enum Job<'a> {
     Dump {
         path: &'a str,
     },
+    /// `grow PATH NEW --size N`: a store is moved into a new file of so many bytes.
+    Grow {
+        path: &'a str,
+        new: &'a str,
+        size: u64,
+    },
     /// `version`: the version of the program.
     Version,
 }

@@ -207,6 +207,20 @@ pub(crate) fn dump_by<'a>(path: Option<&'a str>) -> Option<Job<'a>>
     }
 }
 
+pub(crate) fn grow_by<'a>(
+    path: Option<&'a str>,
+    new: Option<&'a str>,
+    size: Option<&'a str>,
+) -> Option<Job<'a>>
+    ensures { option_map spec.plain_job result ≡ spec.grow_by (option_map (λ p. p.now) path.entry) (option_map (λ n. n.now) new.entry) (option_map (λ s. s.now) size.entry) }
+{
+    let (Some(path), Some(new), Some(size)) = (path, new, size) else {
+        return None;
+    };
+    let size = number_in(size)?;
+    Some(Job::Grow { path, new, size })
+}
+
 // One of both.
 fn source_by<'a>(user: Option<&'a str>, file: Option<&'a str>) -> Option<LoginSource<'a>>
     ensures { option_map spec.plain_source result ≡ spec.source_by (option_map (λ u. u.now) user.entry) (option_map (λ f. f.now) file.entry) }

@@ -9,8 +9,8 @@ use crate::app::drdad;
 use crate::bad_words::tell_bad_word;
 use crate::job::Job;
 use crate::texts::{
-    check_by, decide_by, dump_by, in_doubt_by, init_by, limits_by, options_by, pipe_by, room_by,
-    serve_by, tables_by,
+    check_by, decide_by, dump_by, grow_by, in_doubt_by, init_by, limits_by, options_by, pipe_by,
+    room_by, serve_by, tables_by,
 };
 use clap::ArgMatches;
 use clap::error::ErrorKind;
@@ -104,6 +104,7 @@ fn job_in<'a>(alloc: Global, matches: &ArgMatches<'a>) -> Result<Option<Job<'a>>
         "check" => Ok(check_in(given)),
         "tables" => Ok(tables_in(given)),
         "dump" => Ok(dump_in(given)),
+        "grow" => Ok(grow_in(given)),
         "version" => Ok(Some(Job::Version)),
         _ => Ok(None),
     }
@@ -189,4 +190,14 @@ fn dump_in<'a>(given: &ArgMatches<'a>) -> Option<Job<'a>>
     ensures { option_map spec.plain_job result ≡ spec.dump_by (spec.value (rows_of (found_of given.now)) (codes "path")) }
 {
     dump_by(given.get_str("path"))
+}
+
+fn grow_in<'a>(given: &ArgMatches<'a>) -> Option<Job<'a>>
+    ensures { option_map spec.plain_job result ≡ spec.grow_by (spec.value (rows_of (found_of given.now)) (codes "path")) (spec.value (rows_of (found_of given.now)) (codes "new")) (spec.value (rows_of (found_of given.now)) (codes "size")) }
+{
+    grow_by(
+        given.get_str("path"),
+        given.get_str("new"),
+        given.get_str("size"),
+    )
 }

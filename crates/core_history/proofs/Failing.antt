@@ -1,9 +1,8 @@
 -- A core that has failed stays failed, and what is answered where it fails says so.
-use Rattle.std.proofs.Common.{◌≡◌, ℕ, Bool, true, false, List, Option, Some, None, ◌∙◌, inl, inr}
+use Rattle.std.proofs.Common.{◌≡◌, ℕ, Bool, true, false, List, ◌∙◌, inl, inr}
 use Rattle.drda_disk.specs.Disk.{Life}
 use Rattle.core_calls.specs.Call.{Call}
 use Rattle.core_calls.specs.Answer.{Answer}
-use Rattle.unit_records.specs.declared.phase.Phase.{Phase}
 use Rattle.recovery.specs.Journaled.{OnDisk, shown_on}
 use Rattle.durable_core.specs.Steps.{IsExcused, Steps}
 use Rattle.core_history.specs.declared.wish.Wish.{Wish}
@@ -32,17 +31,13 @@ module _ {D : Type 0} (modelled : Bool) (life : D → Life) where
 
 module _ {D : Type 0} (life : D → Life) where
   -- calls that are made together begin before the device has failed
-  pub together_going : (old new : OnDisk D) (phase : Option Phase) (members : List Wish) (f : Bool) → MakesTogether life old phase members f new → old.is_failed ≡ false
-  together_going old new None members true m = m.going
-  together_going old new None members false m = m.going
-  together_going old new (Some phase) members true m = m.going
-  together_going old new (Some phase) members false m = m.going
+  pub together_going : (old new : OnDisk D) (members : List Wish) (f : Bool) → MakesTogether life old members f new → old.is_failed ≡ false
+  together_going old new members true m = m.going
+  together_going old new members false m = m.going
 
-  pub together_failed : (old new : OnDisk D) (phase : Option Phase) (members : List Wish) (f : Bool) → MakesTogether life old phase members f new → f ≡ true → new.is_failed ≡ true
-  together_failed old new None members true m is = m.failed
-  together_failed old new None members false m is = absurd (let e : false ≡ true = is in cc e)
-  together_failed old new (Some phase) members true m is = m.failed
-  together_failed old new (Some phase) members false m is = absurd (let e : false ≡ true = is in cc e)
+  pub together_failed : (old new : OnDisk D) (members : List Wish) (f : Bool) → MakesTogether life old members f new → f ≡ true → new.is_failed ≡ true
+  together_failed old new members true m is = m.failed
+  together_failed old new members false m is = absurd (let e : false ≡ true = is in cc e)
 
-  pub together_still : (old new : OnDisk D) (phase : Option Phase) (members : List Wish) (f : Bool) → MakesTogether life old phase members f new → old.is_failed ≡ true → new.is_failed ≡ true
-  together_still old new phase members f m is = both old.is_failed is (together_going old new phase members f m)
+  pub together_still : (old new : OnDisk D) (members : List Wish) (f : Bool) → MakesTogether life old members f new → old.is_failed ≡ true → new.is_failed ≡ true
+  together_still old new members f m is = both old.is_failed is (together_going old new members f m)

@@ -35,7 +35,7 @@ module _ {D : Type 0} (modelled : Bool) (life : D → Life) where
   pub at_once : (old new : OnDisk D) (n : ℕ) (k : Call) (a : Answer) → Steps modelled (shown_on life old) n k a (shown_on life new) → IsAnswered modelled life old n k a new
   at_once old new n k a steps = record { at = old; rests = rests_at old; steps = steps }
 
-  excuse_is : (old new : OnDisk D) (n : ℕ) (k : Call) (a : Answer) → IsExcused modelled (shown_on life old) n k a (shown_on life new) → (is_excuse a ≡ true) × (new.state ≡ old.state)
+  pub excuse_is : (old new : OnDisk D) (n : ℕ) (k : Call) (a : Answer) → IsExcused modelled (shown_on life old) n k a (shown_on life new) → (is_excuse a ≡ true) × (new.state ≡ old.state)
   excuse_is old new n k a (inl x) = (ap is_excuse x.answer_is, x.same.state)
   excuse_is old new n k a (inr (inl x)) = (ap is_excuse x.answer_is, x.same.state)
   excuse_is old new n k a (inr (inr (inl x))) = (ap is_excuse x.answer_is, x.state)
@@ -59,7 +59,7 @@ module _ {D : Type 0} (modelled : Bool) (life : D → Life) where
 
   module _ (belong : AnswersBelong) (excuses : ExcusesBelongToNone) where
     -- a step that is taken is no excuse
-    no_excuse : (old new : OnDisk D) (n : ℕ) (k : Call) (a : Answer) → IsTaken (shown_on life old) n k a (shown_on life new) → is_excuse a ≡ true → ⊥
+    pub no_excuse : (old new : OnDisk D) (n : ℕ) (k : Call) (a : Answer) → IsTaken (shown_on life old) n k a (shown_on life new) → is_excuse a ≡ true → ⊥
     no_excuse old new n k a t is = excuses k a is (subst (λ (x : Answer). Belongs k x) (sym t.answer_is) (belong old.state n k))
 
     -- nor is one over other rows

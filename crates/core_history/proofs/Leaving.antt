@@ -6,7 +6,7 @@ use Rattle.core_history.specs.declared.count.Count.{Count}
 use Rattle.core_history.specs.declared.left.Left.{Left}
 use Rattle.core_history.specs.LeftAnswers.{AreLeft, FailuresAreTrue, IsLeft, calls_by}
 use Rattle.core_history.specs.Wishes.{listed_wish}
-use Rattle.core_history.specs.declared.wish.Wished.{Wished}
+use Rattle.unit_records.specs.declared.group_call.Asked.{Asked}
 use Rattle.core_history.specs.Books.{AreCounted, calls_of}
 use Rattle.core_history.proofs.Counting.{get_other, get_replicate, same_or_apart}
 
@@ -52,7 +52,7 @@ left_still calls more left are place l stands = is_left_still calls more l (are 
 
 -- the answer to the last call of a conversation is left
 module _ (calls : List AnsweredCall) (places : List (Option Count)) (next : ℕ) (counted : AreCounted calls places next) (left : List (Option Left)) (are : AreLeft calls left)
-    (p : ℕ) (c : Count) (here : slice_get places p ≡ Some (Some c)) (w : Wished) (f : Bool) where
+    (p : ℕ) (c : Count) (here : slice_get places p ≡ Some (Some c)) (w : Asked) (f : Bool) where
   abbrev more : List AnsweredCall
   more = calls ++ listed_wish c.conversation w f ∷ []
 

@@ -5,6 +5,7 @@ pub mod Leaving
 pub mod Listed
 pub mod Members
 pub mod Opening
+pub mod Recording
 pub mod Sending
 pub mod Together
 pub mod Remaining

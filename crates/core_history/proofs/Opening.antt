@@ -8,19 +8,19 @@ use Rattle.core_model.specs.Step.{CoreState, Kept, Taken}
 use Rattle.serializability.specs.Answered.{AnsweredCall, CallsLead, CallsLeadOn}
 use Rattle.serializability.specs.Belonging.{AnswersBelong, ExcusesBelongToNone, is_excuse}
 use Rattle.recovery.specs.Journaled.{CallsGoOn, IsUnchanged, Journaled, OnDisk, shown_on}
-use Rattle.unit_records.specs.declared.phase.Phase.{Phase}
 use Rattle.core_history.specs.declared.count.Count.{Count}
 use Rattle.core_history.specs.declared.left.Left.{Left}
 use Rattle.core_history.specs.declared.wish.Wish.{Wish}
 use Rattle.core_history.specs.LeftAnswers.{AreLeft, FailuresAreTrue}
-use Rattle.core_history.specs.Books.{AreCounted, IsKept, Told}
+use Rattle.core_history.specs.Books.{AreCounted, AreRecorded, IsKept, Told}
 use Rattle.core_history.specs.declared.pass.Pass.{Pass}
 use Rattle.core_history.specs.Passes.{FindsNoMemory, IsAnswered, Knows}
 use Rattle.core_history.proofs.Counting.{length_replicate, none_yet, set_length}
-use Rattle.core_history.specs.Gathered.{AreAlike, MakesTogether, all_listed}
+use Rattle.core_history.specs.Gathered.{MakesTogether, all_listed}
 use Rattle.core_history.proofs.Leading.{finds_no_memory, leads_on, lost_wants_none}
 use Rattle.core_history.proofs.Leaving.{none_left, none_true, true_after}
 use Rattle.core_history.proofs.Failing.{answered_still, together_failed, together_still}
+use Rattle.core_history.proofs.Recording.{none_recorded, recorded_still, records_of_call, records_together}
 use Rattle.core_history.proofs.Together.{leads_together}
 
 abbrev book_of : {D : Type 0} → OnDisk D → OnDisk D → List AnsweredCall → List (Option Count) → List (Option Left) → ℕ → Told D
@@ -31,6 +31,7 @@ module _ {D : Type 0} (modelled : Bool) (life : D → Life) where
       → left ≡ replicate 64 None → Journaled modelled (shown_on life core) (shown_on life core) → IsKept modelled life (book_of core opening calls places left 1)
   opens on core opening calls places left same none free nothing journaled = record {
     leads = λ told. subst (λ (o : OnDisk D). CallsLead o.state calls core.state) (sym same) (subst (λ (ls : List AnsweredCall). CallsLead core.state ls core.state) (sym none) (on.none core.state));
+    recorded = λ told. subst (λ (o : OnDisk D). AreRecorded o calls core) (sym same) (subst (λ (ls : List AnsweredCall). AreRecorded core ls core) (sym none) (none_recorded core));
     journaled = subst (λ (o : OnDisk D). Journaled modelled (shown_on life o) (shown_on life core)) (sym same) journaled;
     counted = subst (λ (ls : List AnsweredCall). AreCounted ls places 1) (sym none) (subst (λ (ps : List (Option Count)). AreCounted [] ps 1) (sym free) none_yet);
     sixty_four = ap (λ (ps : List (Option Count)). length ps) free ∙ length_replicate {Y = Option Count} 64 None;
@@ -47,6 +48,7 @@ module _ {D : Type 0} (modelled : Bool) (life : D → Life) where
         let (rests, wanting) = finds_no_memory modelled life belong excuses old new n k a is answered in
         record {
           leads = λ told. subst (λ (s : CoreState). CallsLead opening.state calls s) (sym rests.state) (kept.leads told);
+          recorded = λ told. recorded_still opening old new calls rests.made (kept.recorded told);
           journaled = on_disk.both modelled opening old new kept.journaled journaled;
           counted = kept.counted;
           sixty_four = kept.sixty_four;
@@ -76,6 +78,7 @@ module _ {D : Type 0} (modelled : Bool) (life : D → Life) where
         → IsKept modelled life (book_of old opening calls places left next) → IsAnswered modelled life old n k a new → Journaled modelled (shown_on life old) (shown_on life new) → IsKept modelled life (book_of new opening more set left next)
     goes_on on old opening new calls more places set left next p c n k a t done excused more_is set_is counted still on_disk kept answered journaled = record {
       leads = λ told. subst (λ (ls : List AnsweredCall). CallsLead opening.state ls new.state) (sym more_is) (leads_on modelled life belong excuses told on opening.state calls old new n k a t done excused (kept.leads told) answered);
+      recorded = λ told. subst (λ (ls : List AnsweredCall). AreRecorded opening ls new) (sym more_is) (records_of_call modelled life belong excuses told opening old new calls n k a t done excused (kept.leads told) (kept.recorded told) answered);
       journaled = on_disk.both modelled opening old new kept.journaled journaled;
       counted = counted kept.counted;
       sixty_four = ap (λ (ps : List (Option Count)). length ps) set_is ∙ set_length places p c ∙ kept.sixty_four;
@@ -90,6 +93,7 @@ module _ {D : Type 0} (modelled : Bool) (life : D → Life) where
       → IsKept modelled life (book_of new opening calls places left next)
   still old opening new calls places left next on_disk kept same journaled = record {
     leads = λ told. subst (λ (s : CoreState). CallsLead opening.state calls s) (sym same.state) (kept.leads told);
+    recorded = λ told. recorded_still opening old new calls same.made (kept.recorded told);
     journaled = on_disk.both modelled opening old new kept.journaled journaled;
     counted = kept.counted;
     sixty_four = kept.sixty_four;
@@ -98,19 +102,20 @@ module _ {D : Type 0} (modelled : Bool) (life : D → Life) where
     failures = true_after old.is_failed new.is_failed left (λ e. same.is_failed ∙ e) kept.failures;
   }
 
-  pub gathers_on : CallsLeadOn → (old opening new : OnDisk D) (calls more : List AnsweredCall) (places set : List (Option Count)) (left over : List (Option Left)) (next : ℕ) (phase : Option Phase) (members : List Wish) (f : Bool)
-      → AreAlike phase members → more ≡ calls ++ all_listed f members → length set ≡ length places → length over ≡ length left
+  pub gathers_on : CallsLeadOn → (old opening new : OnDisk D) (calls more : List AnsweredCall) (places set : List (Option Count)) (left over : List (Option Left)) (next : ℕ) (members : List Wish) (f : Bool)
+      → more ≡ calls ++ all_listed f members → length set ≡ length places → length over ≡ length left
       → (AreCounted calls places next → AreCounted more set next) → (AreCounted calls places next → AreLeft calls left → AreLeft more over)
       → ((b : Bool) → (f ≡ true → b ≡ true) → FailuresAreTrue b left → FailuresAreTrue b over)
       → CallsGoOn life
-      → IsKept modelled life (book_of old opening calls places left next) → MakesTogether life old phase members f new
+      → IsKept modelled life (book_of old opening calls places left next) → MakesTogether life old members f new
       → Journaled modelled (shown_on life old) (shown_on life new) → IsKept modelled life (book_of new opening more set over next)
-  gathers_on on old opening new calls more places set left over next phase members f alike more_is as_long as_many counted are_left failures on_disk kept together journaled = record {
-    leads = λ told. subst (λ (ls : List AnsweredCall). CallsLead opening.state ls new.state) (sym more_is) (leads_together life on opening.state calls old new phase members f alike (kept.leads told) together);
+  gathers_on on old opening new calls more places set left over next members f more_is as_long as_many counted are_left failures on_disk kept together journaled = record {
+    leads = λ told. subst (λ (ls : List AnsweredCall). CallsLead opening.state ls new.state) (sym more_is) (leads_together life on opening.state calls old new members f (kept.leads told) together);
+    recorded = λ told. subst (λ (ls : List AnsweredCall). AreRecorded opening ls new) (sym more_is) (records_together life opening old new calls members f (kept.leads told) (kept.recorded told) together);
     journaled = on_disk.both modelled opening old new kept.journaled journaled;
     counted = counted kept.counted;
     sixty_four = as_long ∙ kept.sixty_four;
     are_left = are_left kept.counted kept.are_left;
     as_many = as_many ∙ kept.as_many;
-    failures = failures new.is_failed (together_failed life old new phase members f together) (true_after old.is_failed new.is_failed left (together_still life old new phase members f together) kept.failures);
+    failures = failures new.is_failed (together_failed life old new members f together) (true_after old.is_failed new.is_failed left (together_still life old new members f together) kept.failures);
   }

@@ -1,7 +1,12 @@
 -- A book: a core, and what was asked of it since the book was opened.
-use Rattle.std.specs.Prelude.{◌≡◌, ◌≤◌, ◌<◌, ℕ, ◌+◌, Bool, IsTrue, List, [], ◌∷◌, Option, Some, None, ◌==◌, if◌then◌else◌, length, replicate, slice_get}
+use Rattle.std.specs.Prelude.{◌≡◌, ◌≤◌, ◌<◌, ℕ, ◌+◌, Bool, IsTrue, List, [], ◌∷◌, ◌++◌, map, Option, Some, None, ◌==◌, if◌then◌else◌, length, replicate, slice_get}
 use Rattle.drda_disk.specs.Disk.{Life}
-use Rattle.serializability.specs.Answered.{AnsweredCall, CallsLead}
+use Rattle.unit_journal.specs.Record.{Entry}
+use Rattle.unit_records.specs.Records.{UnitRecord, entry_of}
+use Rattle.core_model.specs.Step.{CoreState}
+use Rattle.serializability.specs.Answered.{AnsweredCall, CallsLead, history_of}
+use Rattle.serializability.specs.Histories.{calls}
+use Rattle.recovery.specs.Openings.{records_of}
 use Rattle.recovery.specs.Journaled.{Journaled, OnDisk, shown_on}
 use Rattle.core_history.specs.declared.count.Count.{Count}
 use Rattle.core_history.specs.declared.left.Left.{Left}
@@ -33,11 +38,25 @@ pub record AreCounted (calls : List AnsweredCall) (places : List (Option Count))
   pub apart : (here there : ℕ) (c d : Count) → slice_get places here ≡ Some (Some c) → slice_get places there ≡ Some (Some d) → c.conversation ≡ d.conversation → here ≡ there
   pub fresh : (conversation : ℕ) → next ≤ conversation → calls_of conversation calls ≡ 0
 
--- Where the disk gives back what was written, the calls, with their answers, lead from the opening to the core as it is now; what
--- the core left on its disk since then is journaled; each answer that was left is one of those calls', and where it says that the
+-- the entries of groups, those of the one behind those of the other
+abbrev pub entries_in : List (List Entry) → List Entry
+entries_in [] = []
+entries_in (group ∷ groups) = group ++ entries_in groups
+
+-- the records that are due of the calls whose steps were taken, each in its turn
+abbrev pub records_listed : List AnsweredCall → CoreState → List UnitRecord
+records_listed ls s = records_of (map calls (history_of ls)) s
+
+-- since a core was opened the records of these calls were made, in their order, and no others
+abbrev pub AreRecorded : {D : Type 0} → OnDisk D → List AnsweredCall → OnDisk D → Type 0
+AreRecorded opening ls core = entries_in core.made.done ≡ entries_in opening.made.done ++ map entry_of (records_listed ls opening.state)
+
+-- Where the disk gives back what was written, the calls, with their answers, lead from the opening to the core as it is now, and
+-- their records are those that were made; what the core left on its disk since then is journaled; each answer that was left is one of those calls', and where it says that the
 -- device failed, the core has failed.
 pub record IsKept {D : Type 0} (modelled : Bool) (life : D → Life) (book : Told D) : Type 0 where
   pub leads : IsTrue modelled → CallsLead book.opening.state book.calls book.core.state
+  pub recorded : IsTrue modelled → AreRecorded book.opening book.calls book.core
   pub journaled : Journaled modelled (shown_on life book.opening) (shown_on life book.core)
   pub counted : AreCounted book.calls book.places book.next
   pub sixty_four : length book.places ≡ 64

@@ -3,33 +3,30 @@ use Rattle.std.specs.Prelude.{◌≡◌, ℕ, ◌+◌, ◌<◌, ◌^◌, Bool, L
 use Rattle.drda_disk.specs.Disk.{Life}
 use Rattle.core_calls.specs.Answer.{Answer}
 use Rattle.serializability.specs.Answered.{AnsweredCall}
-use Rattle.std.specs.List.{AllByRecursion}
-use Rattle.unit_records.specs.declared.phase.BranchCall.{BranchCall}
-use Rattle.unit_records.specs.declared.phase.Phase.{Phase}
+use Rattle.unit_records.specs.declared.group_call.GroupCall.{GroupCall}
 use Rattle.recovery.specs.Journaled.{IsUnchanged, OnDisk, shown_on}
-use Rattle.durable_core.specs.Through.{GoThrough}
-use Rattle.durable_core.specs.Together.{CommitTogether}
+use Rattle.durable_core.specs.Together.{MakeTogether}
 use Rattle.durable_core.specs.declared.together.Together.TheVariants.{DeviceFailed, Done}
 use Rattle.core_history.specs.declared.count.Count.{Count}
 use Rattle.core_history.specs.declared.left.Left.{Left}
 use Rattle.core_history.specs.declared.pass.Pass.{Pass}
 use Rattle.core_history.specs.declared.wish.Wish.{Wish}
-use Rattle.core_history.specs.declared.wish.Wished.{Wished}
+use Rattle.unit_records.specs.declared.group_call.Asked.{Asked}
 use Rattle.core_history.specs.LeftAnswers.{calls_by}
-use Rattle.core_history.specs.Wishes.{answer_wished, listed_wish, phase_wished, xid_wished}
+use Rattle.core_history.specs.Wishes.{answer_wished, listed_wish}
 use Rattle.core_history.specs.Books.{Told}
 use Rattle.core_history.specs.Passes.{calls_in}
 
 -- ---- collecting
 
 -- the book counts one call more than the pass, and its answer is left
-pub record IsWaiting {D : Type 0} (book : Told D) (pass : Pass) (wished : Wished) (has_failed : Bool) : Type 0 where
+pub record IsWaiting {D : Type 0} (book : Told D) (pass : Pass) (wished : Asked) (has_failed : Bool) : Type 0 where
   pub counted : slice_get book.places pass.place ≡ Some (Some (record { conversation = pass.conversation; calls = pass.count + 1 }))
   pub left : slice_get book.left pass.place ≡ Some (Some (record { conversation = pass.conversation; number = pass.count; wished = wished; has_failed = has_failed }))
 
 -- The pass shows what was wished for, which the book lists as its next call, with that answer, and the answer is left no
 -- longer.
-pub record Collects {D : Type 0} (old : Told D) (pass : Pass) (wished : Wished) (answer : Answer) (new : Told D) (after : Pass) : Type 0 where
+pub record Collects {D : Type 0} (old : Told D) (pass : Pass) (wished : Asked) (answer : Answer) (new : Told D) (after : Pass) : Type 0 where
   pub has_failed : Bool
   pub waiting : IsWaiting old pass wished has_failed
   pub answer_is : answer ≡ answer_wished wished has_failed
@@ -41,7 +38,7 @@ pub record Collects {D : Type 0} (old : Told D) (pass : Pass) (wished : Wished) 
   pub book : new ≡ record old { left = slice_set old.left pass.place None }
 
 -- what is wished for is not left as its next call
-pub record CollectsNothing {D : Type 0} (old : Told D) (pass : Pass) (wished : Wished) (new : Told D) (after : Pass) : Type 0 where
+pub record CollectsNothing {D : Type 0} (old : Told D) (pass : Pass) (wished : Asked) (new : Told D) (after : Pass) : Type 0 where
   pub none : (has_failed : Bool) → IsWaiting old pass wished has_failed → ⊥
   pub book : new ≡ old
   pub same : after ≡ pass
@@ -59,7 +56,7 @@ pub record IsMember (places : List (Option Count)) (wishes : List Wish) (wish : 
   pub numbered : wish.count + 2 < 2 ^ 64
 
 -- a wish at the pass's place is that it waits to ask this as its next call
-abbrev pub Agrees : Pass → Wished → Wish → Type 0
+abbrev pub Agrees : Pass → Asked → Wish → Type 0
 Agrees pass wished wish = wish.place ≡ pass.place → (wish.conversation ≡ pass.conversation) × (wish.count ≡ pass.count) × (wish.wished ≡ wished)
 
 abbrev pub AreMembers : List (Option Count) → List Wish → List Wish → Type 0
@@ -69,15 +66,9 @@ AreMembers places wishes members = (at : ℕ) (wish : Wish) → slice_get member
 abbrev pub AreApart : List Wish → Type 0
 AreApart members = (here there : ℕ) (v w : Wish) → slice_get members here ≡ Some v → slice_get members there ≡ Some w → v.place ≡ w.place → here ≡ there
 
-abbrev pub conversations_of : List Wish → List ℕ
-conversations_of members = map (λ w. w.conversation) members
-
--- all of them are commits, or all are of one phase of two-phase commit
-abbrev pub AreAlike : Option Phase → List Wish → Type 0
-AreAlike phase members = AllByRecursion (λ (w : Wish). phase_wished w.wished ≡ phase) members
-
-abbrev pub branch_calls_of : List Wish → List BranchCall
-branch_calls_of members = map (λ (w : Wish). record { conversation = w.conversation; xid = xid_wished w.wished }) members
+-- what they ask of the core
+abbrev pub group_of : List Wish → List GroupCall
+group_of members = map (λ (w : Wish). record { conversation = w.conversation; asked = w.wished }) members
 
 -- ---- calls that are made together
 
@@ -96,10 +87,9 @@ all_left has_failed [] left = left
 all_left has_failed (w ∷ ws) left = all_left has_failed ws (slice_set left w.place (Some (record { conversation = w.conversation; number = w.count; wished = w.wished; has_failed = has_failed })))
 
 module _ {D : Type 0} (life : D → Life) where
-  -- the core makes them together: commits with one record, branches with one each; or the device fails at it
-  abbrev pub MakesTogether : OnDisk D → Option Phase → List Wish → Bool → OnDisk D → Type 0
-  MakesTogether old None members has_failed new = CommitTogether (shown_on life old) (conversations_of members) (if has_failed then DeviceFailed else Done) (shown_on life new)
-  MakesTogether old (Some phase) members has_failed new = GoThrough (shown_on life old) phase (branch_calls_of members) (if has_failed then DeviceFailed else Done) (shown_on life new)
+  -- the core makes them together, or the device fails at it
+  abbrev pub MakesTogether : OnDisk D → List Wish → Bool → OnDisk D → Type 0
+  MakesTogether old members has_failed new = MakeTogether (shown_on life old) (group_of members) (if has_failed then DeviceFailed else Done) (shown_on life new)
 
   -- nothing was done
   pub record GathersNone (old new : Told D) : Type 0 where
@@ -108,13 +98,12 @@ module _ {D : Type 0} (life : D → Life) where
 
   -- Some of the wishes were fulfilled together, or the device failed at it. Each is listed with its answer, one after another,
   -- and the answer is left for its conversation.
-  pub record Gathers (phase : Option Phase) (old : Told D) (wishes : List Wish) (new : Told D) : Type 0 where
+  pub record Gathers (old : Told D) (wishes : List Wish) (new : Told D) : Type 0 where
     pub members : List Wish
     pub each : AreMembers old.places wishes members
     pub apart : AreApart members
-    pub alike : AreAlike phase members
     pub has_failed : Bool
-    pub core : MakesTogether old.core phase members has_failed new.core
+    pub core : MakesTogether old.core members has_failed new.core
     pub calls : new.calls ≡ old.calls ++ all_listed has_failed members
     pub places : new.places ≡ all_counted members old.places
     pub left : new.left ≡ all_left has_failed members old.left

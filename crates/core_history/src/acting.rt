@@ -9,7 +9,7 @@ use crate::count::Count;
 use crate::listing::list;
 use crate::numbering::{free_places, is_out_of_numbers, knows};
 use crate::pass::Pass;
-use crate::renewals::Renewals;
+use crate::renewals::{Lack, Renewals};
 use core_calls::{Answer, CoreCall};
 use drda_disk::Disk;
 use durable_core::DurableCore;
@@ -71,6 +71,11 @@ impl<D: Disk> Book<D> {
     /// How many checkpoints were written since the book was opened, modulo 2^64. No clause says anything of it.
     pub fn checkpoints(&self) -> u64 {
         self.renewals.written()
+    }
+
+    /// What a record has no room in that the core has none for. No clause says anything of it.
+    pub fn lack(&self) -> Lack {
+        self.renewals.lack(&self.core)
     }
 
     /// Leave for one conversation more, under a number that was not given before. None where 64 have leave,
@@ -143,7 +148,7 @@ impl<D: Disk> Book<D> {
     {
         calls_go_on::<D>();
         self.core.is_durable();
-        if self.core.is_checkpoint_due() {
+        if self.renewals.is_due(&self.core) {
             self.renewals.renew(&mut self.core);
         }
     }

@@ -3,24 +3,22 @@
 ghost use Rattle.std.specs.Prelude.{◌≡◌, ◌⊎◌, ◌≤◌, IfSome, None, Some, false, if◌then◌else◌, length, true};
 ghost use Rattle.core_calls.specs.Answer.{answer_of};
 ghost use Rattle.core_calls.specs.Call.{call_of, xa};
-ghost use Rattle.durable_core.specs.Through.{GoThrough};
-ghost use Rattle.durable_core.specs.Together.{CommitTogether};
 ghost use Rattle.durable_core.specs.declared.together.Together.TheVariants.{Alone, Closed, DeviceFailed, Done};
 ghost use Rattle.recovery.specs.Journaled.{IsUnchanged, Journaled, shown_on};
-ghost use Rattle.core_history.specs.Gathered.{MakesTogether, branch_calls_of, conversations_of};
-ghost use Rattle.core_history.specs.Wishes.{call_wished};
+ghost use Rattle.core_history.specs.Gathered.{MakesTogether};
+ghost use Rattle.unit_records.specs.Together.{call_for};
 ghost use Rattle.serializability.specs.Belonging.{is_excuse};
 ghost use Rattle.core_history.specs.Passes.{IsAnswered};
 
-use crate::chosen::{Chosen, list_branch_calls, list_conversations};
+use crate::chosen::{Chosen, list_calls};
 use crate::renewals::Renewals;
-use crate::wish::{Wish, Wished};
+use crate::wish::Wish;
 use core_calls::{Answer, CoreCall};
 use drda_disk::Disk;
 use durable_core::{DurableCore, Together};
 use recovery::images::calls_go_on;
 use serializability::answers::answers_belong_to_calls;
-use unit_records::{BranchCall, Phase};
+use unit_records::{Asked, GroupCall, Phase};
 use xa_calls::{Request, Verb, Xid};
 
 /// The core takes a step. Where the journal has no room for its record, the core writes a checkpoint first, unless
@@ -46,57 +44,31 @@ pub(crate) fn ask<D: Disk>(
 }
 
 /// What was chosen is made together, and the answer is whether the device failed at it. None where nothing was done.
-pub(crate) fn ask_together<D: Disk>(
-    core: &mut DurableCore<D>,
-    phase: Option<Phase>,
-    chosen: &mut Chosen,
-) -> Option<bool>
+pub(crate) fn ask_together<D: Disk>(core: &mut DurableCore<D>, chosen: &mut Chosen) -> Option<bool>
     ensures members { chosen.new.members.items ≡ chosen.old.members.items }
-    ensures some { IfSome result (λ has_failed. MakesTogether D.life core.old phase chosen.old.members.items has_failed core.new) }
+    ensures some { IfSome result (λ has_failed. MakesTogether D.life core.old chosen.old.members.items has_failed core.new) }
     ensures none { result ≡ None → IsUnchanged (shown_on D.life core.old) (shown_on D.life core.new) }
     ensures journaled { Journaled D.is_modelled (shown_on D.life core.old) (shown_on D.life core.new) }
 {
-    match phase {
-        None => commit_together(core, &chosen.members, &mut chosen.conversations),
-        Some(phase) => go_through(core, phase, &chosen.members, &mut chosen.branch_calls),
-    }
+    make_together(core, &chosen.members, &mut chosen.calls)
 }
 
-// The conversations of these wishes commit together.
-fn commit_together<D: Disk>(
+// The calls of these wishes are made together.
+fn make_together<D: Disk>(
     core: &mut DurableCore<D>,
     members: &[Wish],
-    conversations: &mut Vec<u64>,
+    calls: &mut Vec<GroupCall>,
 ) -> Option<bool>
-    ensures some { IfSome result (λ has_failed. CommitTogether (shown_on D.life core.old) (conversations_of members.now) (if has_failed then DeviceFailed else Done) (shown_on D.life core.new)) }
+    ensures some { IfSome result (λ has_failed. MakesTogether D.life core.old members.now has_failed core.new) }
     ensures none { result ≡ None → IsUnchanged (shown_on D.life core.old) (shown_on D.life core.new) }
     ensures journaled { Journaled D.is_modelled (shown_on D.life core.old) (shown_on D.life core.new) }
 {
     calls_go_on::<D>();
     core.is_durable();
-    if !list_conversations(members, conversations) {
+    if !list_calls(members, calls) {
         return None;
     }
-    has_failed(core.commit_together(conversations))
-}
-
-// The branches of these wishes go through a phase together.
-fn go_through<D: Disk>(
-    core: &mut DurableCore<D>,
-    phase: Phase,
-    members: &[Wish],
-    branch_calls: &mut Vec<BranchCall>,
-) -> Option<bool>
-    ensures some { IfSome result (λ has_failed. GoThrough (shown_on D.life core.old) phase (branch_calls_of members.now) (if has_failed then DeviceFailed else Done) (shown_on D.life core.new)) }
-    ensures none { result ≡ None → IsUnchanged (shown_on D.life core.old) (shown_on D.life core.new) }
-    ensures journaled { Journaled D.is_modelled (shown_on D.life core.old) (shown_on D.life core.new) }
-{
-    calls_go_on::<D>();
-    core.is_durable();
-    if !list_branch_calls(members, branch_calls) {
-        return None;
-    }
-    has_failed(core.go_through(phase, branch_calls))
+    has_failed(core.make_together(calls))
 }
 
 // Whether the device failed at calls that were made together; None where they were not made.
@@ -124,22 +96,22 @@ pub(crate) fn is_done(answer: &Answer) -> bool
 
 /// What a conversation wishes that is about to make this call, where calls of its kind are made together: a commit, but
 /// for one behind no statement that may have changed rows, and a phase of two-phase commit.
-pub fn wished_by(has_run: bool, call: &CoreCall<'_, '_, '_>) -> Option<Wished>
-    ensures { IfSome result (λ wished. call_of call.now ≡ call_wished wished) }
+pub fn wished_by(has_run: bool, call: &CoreCall<'_, '_, '_>) -> Option<Asked>
+    ensures { IfSome result (λ wished. call_of call.now ≡ call_for wished) }
 {
     match call {
-        CoreCall::Commit if has_run => Some(Wished::Commit),
+        CoreCall::Commit if has_run => Some(Asked::Commit),
         CoreCall::Xa(Ok(Request::Branch(verb, xid))) => through(*verb, xid),
         _ => None,
     }
 }
 
 // The wish for a phase in which this is asked of a branch.
-fn through(verb: Verb, xid: &Xid) -> Option<Wished>
-    ensures { IfSome result (λ wished. xa (Some (Request.Branch verb xid.now)) ≡ call_wished wished) }
+fn through(verb: Verb, xid: &Xid) -> Option<Asked>
+    ensures { IfSome result (λ wished. xa (Some (Request.Branch verb xid.now)) ≡ call_for wished) }
 {
     let phase = Phase::of(verb)?;
-    Some(Wished::Through(phase, *xid))
+    Some(Asked::Through(phase, *xid))
 }
 
 /// Whether a statement was run that may have changed rows, and no commit and no rollback came behind it.

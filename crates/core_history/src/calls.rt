@@ -10,9 +10,9 @@ ghost use Rattle.serializability.specs.Answered.{AnsweredCall};
 ghost use Rattle.sql_copies.specs.Stored.{coded_predicate};
 ghost use Rattle.core_history.specs.Wishes.{listed_wish};
 
-use crate::wish::Wished;
 use core_calls::{Answer, CoreCall};
 use std::marker::{Model, PhantomData, Send};
+use unit_records::Asked;
 
 /// The calls that were asked so far with what they were answered, in their order. It takes no memory.
 #[derive(Drop)]
@@ -47,7 +47,7 @@ impl CallList {
     {}
 
     /// One call more, that was wished for and made together with others.
-    pub(crate) fn note_wish(&mut self, _conversation: u64, _wished: &Wished, _has_failed: bool)
+    pub(crate) fn note_wish(&mut self, _conversation: u64, _wished: &Asked, _has_failed: bool)
         ensures { self.new.listed ≡ self.old.listed ++ listed_wish _conversation _wished.now _has_failed ∷ [] }
     {}
 }

@@ -5,10 +5,10 @@ use crate::count::Count;
 use crate::left::Left;
 use crate::listing::answer_left;
 use crate::pass::Pass;
-use crate::wish::Wished;
 use core_calls::Answer;
 use drda_disk::Disk;
 use recovery::images::calls_go_on;
+use unit_records::Asked;
 
 impl<D: Disk> Book<D> {
     ghost use Rattle.std.specs.Prelude.{◌≡◌, IfSome, None};
@@ -19,7 +19,7 @@ impl<D: Disk> Book<D> {
     /// The answer to the pass's next call, where that is what was wished for and was made together with others: the pass
     /// shows the call as the book has listed it, and the answer is left no longer. None where nothing is left for it;
     /// then nothing changes. Takes no memory.
-    pub fn collect(&mut self, pass: &mut Pass, wished: &Wished) -> Option<Answer>
+    pub fn collect(&mut self, pass: &mut Pass, wished: &Asked) -> Option<Answer>
         ensures some { IfSome result (λ answer. Collects self.old pass.old wished.now (answer_of answer) self.new pass.new) }
         ensures none { result ≡ None → CollectsNothing self.old pass.old wished.now self.new pass.new }
         ensures journaled { Journaled D.is_modelled (shown_on D.life self.old.core) (shown_on D.life self.new.core) }
@@ -43,7 +43,7 @@ fn left_for(
     places: &[Option<Count>],
     left: &[Option<Left>],
     pass: &Pass,
-    wished: &Wished,
+    wished: &Asked,
 ) -> Option<bool>
     ensures some { IfSome result (λ f. (slice_get places.now pass.now.place ≡ Some (Some (record { conversation = pass.now.conversation; calls = pass.now.count + 1 }))) × (slice_get left.now pass.now.place ≡ Some (Some (record { conversation = pass.now.conversation; number = pass.now.count; wished = wished.now; has_failed = f })))) }
     ensures small { IfSome result (λ _. pass.now.count + 1 < 2 ^ 64) }
@@ -73,7 +73,7 @@ fn take_away(left: &mut Vec<Option<Left>>, place: usize)
 }
 
 // A pass shows a call that was made together with others, and counts it.
-fn show(pass: &mut Pass, wished: &Wished, has_failed: bool)
+fn show(pass: &mut Pass, wished: &Asked, has_failed: bool)
     requires { pass.old.count + 1 < 2 ^ 64 }
     ensures shown { calls_in pass.new ≡ calls_in pass.old ++ listed_wish pass.old.conversation wished.now has_failed ∷ [] }
     ensures count { pass.new.count ≡ pass.old.count + 1 }

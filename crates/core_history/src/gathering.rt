@@ -7,32 +7,30 @@ use crate::wish::Wish;
 use drda_disk::Disk;
 use recovery::images::calls_go_on;
 use serializability::answers::answers_are_serial;
-use unit_records::Phase;
 
 impl<D: Disk> Book<D> {
     ghost use Rattle.std.specs.Prelude.{◌⊎◌};
     ghost use Rattle.recovery.specs.Journaled.{Journaled, shown_on};
     ghost use Rattle.core_history.specs.Gathered.{Gathers, GathersNone};
 
-    /// Those of the wishes that are for a phase of two-phase commit, or with none those to commit, and whose
-    /// conversations the book counts as the wishes do, are fulfilled together: commits with one record of them all,
-    /// branches with one each, all of them in one group; and they are listed one after another. Each conversation has
-    /// made one call more then, and its answer is left at its place, to be collected. Where the device fails at it,
-    /// that is the answer of each.
+    /// Those of the wishes whose conversations the book counts as the wishes do, and whose calls would be done alone, with a
+    /// record, are fulfilled together, with a record each, all of them in one group; and they are listed one after
+    /// another. Each conversation has made one call more then, and its answer is left at its place, to be collected.
+    /// Where the device fails at it, that is the answer of each.
     ///
     /// Nothing is done where there are fewer than two of them, where they do not go together, where there is no memory
     /// or no room for all, or where the device had failed before: then each makes its call alone.
-    pub fn make_together(&mut self, phase: Option<Phase>, wishes: &[Wish])
-        ensures gathers { GathersNone D.life self.old self.new ⊎ Gathers D.life phase self.old wishes.now self.new }
+    pub fn make_together(&mut self, wishes: &[Wish])
+        ensures gathers { GathersNone D.life self.old self.new ⊎ Gathers D.life self.old wishes.now self.new }
         ensures journaled { Journaled D.is_modelled (shown_on D.life self.old.core) (shown_on D.life self.new.core) }
     {
         calls_go_on::<D>();
         answers_are_serial();
         self.core.is_durable();
-        if !self.chosen.choose(&self.core, phase, &self.places, wishes) {
+        if !self.chosen.choose(&self.core, &self.places, wishes) {
             return;
         }
-        let Some(has_failed) = ask_together(&mut self.core, phase, &mut self.chosen) else {
+        let Some(has_failed) = ask_together(&mut self.core, &mut self.chosen) else {
             return;
         };
         list_all(

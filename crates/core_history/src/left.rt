@@ -1,6 +1,6 @@
 //! Answers that are left.
 
-use crate::wish::Wished;
+use unit_records::Asked;
 
 /// The answer of a call that was made together with others', for its conversation to collect.
 #[derive(Clone, Copy)]
@@ -10,7 +10,7 @@ pub struct Left {
     /// Which of its calls, from 0 on.
     pub number: u64,
     /// What was wished for.
-    pub wished: Wished,
+    pub wished: Asked,
     /// Whether the device failed; else it is done.
     pub has_failed: bool,
 }

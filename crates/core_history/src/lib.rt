@@ -28,4 +28,5 @@ pub use count::Count;
 pub use left::Left;
 pub use numbering::PLACES;
 pub use pass::Pass;
-pub use wish::{Wish, Wished};
+pub use renewals::Lack;
+pub use wish::Wish;

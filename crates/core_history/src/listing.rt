@@ -14,8 +14,10 @@ use crate::calls::CallList;
 use crate::count::Count;
 use crate::left::Left;
 use crate::pass::Pass;
-use crate::wish::{Wish, Wished};
+use crate::wish::Wish;
 use core_calls::{Answer, CoreCall};
+use unit_records::Asked;
+use xa_calls::XaCode;
 
 /// Lists a call, which is one more of its conversation and of its pass.
 pub(crate) fn list(
@@ -105,11 +107,14 @@ fn list_one(
 }
 
 /// What a call is answered that was wished for and made together with others.
-pub(crate) fn answer_left(wished: &Wished, has_failed: bool) -> Answer
+pub(crate) fn answer_left(wished: &Asked, has_failed: bool) -> Answer
     ensures { answer_of result ≡ answer_wished wished.now has_failed }
 {
     if has_failed {
         return Answer::DeviceFailed;
     }
-    wished.done()
+    match wished {
+        Asked::Commit => Answer::Done,
+        Asked::Through(_, _) => Answer::Xa(XaCode::Done),
+    }
 }

@@ -1,7 +1,8 @@
 //! Leave for one conversation's calls.
 
 use crate::calls::CallList;
-use crate::wish::{Wish, Wished};
+use crate::wish::Wish;
+use unit_records::Asked;
 
 /// Leave for the calls of one conversation of a book. It counts those that were listed, and shows them to
 /// clauses, with their answers.
@@ -39,7 +40,7 @@ impl Pass {
     }
 
     /// Whether a wish is at another place, or is that this pass's conversation waits to ask this as its next call.
-    pub fn agrees(&self, wish: &Wish, wished: &Wished) -> bool
+    pub fn agrees(&self, wish: &Wish, wished: &Asked) -> bool
         ensures { result ≡ true → Agrees self.now wished.now wish.now }
     {
         wish.place != self.place
@@ -49,7 +50,7 @@ impl Pass {
     }
 
     /// That its conversation waits to ask this as its next call.
-    pub fn wish(&self, wished: Wished) -> Wish
+    pub fn wish(&self, wished: Asked) -> Wish
         ensures { result ≡ record { conversation = self.now.conversation; place = self.now.place; count = self.now.count; wished = wished } }
     {
         Wish {

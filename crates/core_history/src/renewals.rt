@@ -5,27 +5,44 @@ use drda_disk::Disk;
 use durable_core::{Checkpointed, DurableCore};
 use recovery::images::calls_go_on;
 
-/// The checkpoints that a book writes: how many were written since it was opened, and how full the core was behind
-/// the last one that was written, or that had no room.
+/// The checkpoints that a book writes: how many were written since it was opened, and how many bytes of records the last one laid;
+/// how full the core was behind the last one that was written, or that had no room; and whether that had none.
 #[derive(Clone, Copy)]
 pub struct Renewals {
     pub(crate) written: u64,
+    pub(crate) laid: usize,
     pub(crate) last: Option<Filling>,
+    pub(crate) lacks_half: bool,
+}
+
+/// What a record has no room in.
+#[derive(Clone, Copy, Debug, PartialEq, Eq)]
+pub enum Lack {
+    /// A journal behind a checkpoint: smaller units go through.
+    Unit,
+    /// The journal, until a checkpoint.
+    Journal,
+    /// The tables no longer fit in a half, so that no checkpoint can be written.
+    Half,
 }
 
 impl Renewals {
-    ghost use Rattle.std.specs.Prelude.{◌≡◌, ◌↔◌, IsTrue, None, Some};
+    ghost use Rattle.std.specs.Prelude.{◌≡◌, ◌<◌, ◌↔◌, IsTrue, None, Some, false, true};
+    ghost use Rattle.durable_core.specs.Checkpointing.{half_bytes_for, need_for};
+    ghost use Rattle.durable_core.specs.Gauging.{IsDue};
     ghost use Rattle.recovery.specs.Journaled.{Journaled, shown_on};
     ghost use Rattle.core_history.specs.Fillings.{filling_of};
     ghost use Rattle.core_history.specs.Passes.{Rests};
 
     /// None was written yet.
     pub(crate) fn none() -> Renewals
-        ensures { result ≡ record { written = 0; last = None } }
+        ensures { result ≡ record { written = 0; laid = 0; last = None; lacks_half = false } }
     {
         Renewals {
             written: 0,
+            laid: 0,
             last: None,
+            lacks_half: false,
         }
     }
 
@@ -36,11 +53,30 @@ impl Renewals {
         self.written
     }
 
+    /// Whether a checkpoint is due by how full the core is, and by what the last one laid.
+    pub(crate) fn is_due<D: Disk>(&self, core: &DurableCore<D>) -> bool
+        ensures { IsTrue D.is_modelled → core.now.is_failed ≡ false → IsDue (shown_on D.life core.now) self.now.laid result }
+    {
+        core.is_checkpoint_due(self.laid)
+    }
+
+    /// What a record has no room in that this core has none for. No clause says anything of it.
+    pub(crate) fn lack<D: Disk>(&self, core: &DurableCore<D>) -> Lack {
+        if self.lacks_half {
+            return Lack::Half;
+        }
+        if self.is_as_full(core) {
+            return Lack::Unit;
+        }
+        Lack::Journal
+    }
+
     /// Writes a checkpoint, unless the core is as full as behind the last one: then another gains none, and whoever
     /// asks again and again would hold all others up. Where it has no room, or memory is refused, the core goes on
     /// without; where the device fails, the next call tells.
     pub(crate) fn renew<D: Disk>(&mut self, core: &mut DurableCore<D>)
         ensures rests { Rests core.old core.new }
+        ensures lacks { IsTrue D.is_modelled → self.old.lacks_half ≡ false → self.new.lacks_half ≡ true → half_bytes_for (shown_on D.life core.old) < need_for (shown_on D.life core.old) }
         ensures once { self.old.last ≡ Some (filling_of core.old) → (core.new ≡ core.old) × (self.new ≡ self.old) }
         ensures journaled { Journaled D.is_modelled (shown_on D.life core.old) (shown_on D.life core.new) }
     {
@@ -52,9 +88,14 @@ impl Renewals {
         match core.checkpoint() {
             Checkpointed::Done => {
                 self.written = self.written.wrapping_add(1);
+                self.laid = core.gauge().records;
                 self.last = Some(Filling::of(core));
+                self.lacks_half = false;
             }
-            Checkpointed::Full { need: _, room: _ } => self.last = Some(Filling::of(core)),
+            Checkpointed::Full { need: _, room: _ } => {
+                self.last = Some(Filling::of(core));
+                self.lacks_half = true;
+            }
             _ => {}
         }
     }

@@ -1,6 +1,6 @@
 //! A core that counts its records, and what is asked of it.
 
-use crate::phases::{branch_call, phase_of};
+use crate::phases::{group_call, phase_of};
 use crate::room::Room;
 use crate::shown::{push_branches, push_changes, push_state};
 use core_calls::{Answer, CoreCall};
@@ -10,7 +10,7 @@ use std::marker::Model;
 use tables::TableView;
 use test_calls::{Calls, Scripts, push_text, xid_of};
 use test_core::Unpaged;
-use unit_records::{BranchCall, GroupError, Phase, RecordError};
+use unit_records::{GroupCall, GroupError, Phase};
 use xa_calls::{InvalidRequest, Request, Xid};
 use xa_manager::{BranchState, Decision};
 
@@ -76,45 +76,24 @@ impl Bench {
         push_text(out, &format!(in self.alloc; "{count} {verb}").ok()?)
     }
 
-    // What becomes of conversations that are to commit together.
-    fn together(&mut self, conversations: &[u64]) -> &'static str {
-        if !self.core.may_go_together(conversations) {
+    // What becomes of calls that are to be made together.
+    fn together(&mut self, calls: &[GroupCall]) -> &'static str {
+        if !self.core.may_make(calls) {
             return "not together";
         }
-        match self.core.commit_together(conversations) {
-            Ok(()) => "all done",
-            Err(RecordError::Full { .. }) => "full",
-            Err(_) => "no memory",
-        }
-    }
-
-    fn push_together(&mut self, numbers: &str, out: &mut Vec<u8>) -> Option<()> {
-        let mut conversations = Vec::new(self.alloc);
-        for number in numbers.split_ascii_whitespace() {
-            conversations.push(number.parse::<u64>().ok()?).ok()?;
-        }
-        push_text(out, self.together(&conversations))
-    }
-
-    // What becomes of branches that are to go through a phase together.
-    fn through(&mut self, phase: Phase, calls: &[BranchCall]) -> &'static str {
-        if !self.core.may_go_through(phase, calls) {
-            return "not together";
-        }
-        match self.core.go_through(phase, calls) {
+        match self.core.make_together(calls) {
             Ok(()) => "all done",
             Err(GroupError::Refused) => "refused",
             Err(GroupError::DeviceFailed) => "device failed",
         }
     }
 
-    fn push_through(&mut self, asked: &str, out: &mut Vec<u8>) -> Option<()> {
-        let (name, words) = asked.split_once(' ').unwrap_or((asked, ""));
+    fn push_together(&mut self, words: &str, out: &mut Vec<u8>) -> Option<()> {
         let mut calls = Vec::new(self.alloc);
         for word in words.split_ascii_whitespace() {
-            calls.push(branch_call(word)?).ok()?;
+            calls.push(group_call(word)?).ok()?;
         }
-        push_text(out, self.through(phase_of(name)?, &calls))
+        push_text(out, self.together(&calls))
     }
 
     // What becomes of a branch that is to be decided heuristically.
@@ -166,9 +145,9 @@ impl Calls for Bench {
     }
 
     // `fresh` is a core without tables. `look` shows the rows of T, the units that have work, and the branches; `branches` those alone, and
-    // `changes` how many changes the first unit has, and their bytes. `together` commits the conversations of these numbers, in this order;
-    // behind `room` a commit has so many changes at most. `through` takes branches through the phase that it names first, each as C=N: the
-    // conversation C asks for the branch =N. `decide` decides a branch heuristically, to `commit` or to `rollback`. `tables`, `known`, `doubts` and `records` count tables, branches and records.
+    // `changes` how many changes the first unit has, and their bytes. `together` makes calls together, in this order: each is C, the commit of
+    // the conversation C, or PHASE:C=N, by which it asks for a phase of the branch =N; behind `room` each commit has so many changes at most. `decide`
+    // decides a branch heuristically, to `commit` or to `rollback`. `tables`, `known`, `doubts` and `records` count tables, branches and records.
     fn do_other(
         &mut self,
         _scripts: &Scripts,
@@ -185,7 +164,6 @@ impl Calls for Bench {
             "branches" => push_branches(self.alloc, self.core.plain().ok()?.branches(), out),
             "changes" => push_changes(self.alloc, self.core.plain().ok()?.units(), out),
             "together" => self.push_together(rest, out),
-            "through" => self.push_through(rest, out),
             "decide" => self.push_decided(rest, out),
             "room" => {
                 self.core.recorder.recorder.changes = rest.parse::<usize>().ok()?;

@@ -51,9 +51,10 @@ pub record Tears (at n : ℕ) (old new : Life) : Type 0 where
 abbrev pub CountsFault : {T E : Type 0} → Result T E → ℕ → ℕ → Type 0
 CountsFault result old new = MatchResult result (λ _. new ≡ old) (λ _. new ≡ old + 1)
 
--- A crash at any moment since old leaves an image that has P.
+-- A crash at any moment since old leaves an image that has P, and the disk has kept its size.
 pub record LeavesOnly (old new : Life) (P : List ℕ → Type 0) : Type 0 where
   pub later : old.moment ≤ new.moment
+  pub size : length new.seen ≡ length old.seen
   pub each : (c : List ℕ) → new.left_since old.moment c → P c
   pub now : (c : List ℕ) → Now new c → P c
   -- for a run of calls that began earlier

@@ -11,3 +11,4 @@ pub mod Rows
 pub mod Refusing
 pub mod Histories
 pub mod SerialOrder
+pub mod Causes

@@ -178,3 +178,21 @@ no_bytes (Opens n) none = refl
 no_bytes (Sends n size) none = absurd (none n size refl)
 no_bytes (Loses n) none = refl
 no_bytes (Checkpoints n) none = refl
+
+-- fewer bytes than a record's head has
+few_are_bad : (ys : List ℕ) → 0 < length ys → length ys < 6 → IsBad ys
+few_are_bad ys some few = record {
+  some = λ empty. let none : length ys ≡ 0 = ap length empty in omega (arith, none, some);
+  no_event = λ event more allowed e.
+      let long : length ys ≡ suc (suc (suc (suc (suc (suc (length (bytes_of event ++ more))))))) = ap length (e ∙ ap (λ (z : List ℕ). z ++ more) (is_record event)) in
+      omega (arith, long, few);
+}
+
+-- the stream ended in it
+pub short_front : (r0 r1 : Option (List ℕ)) (bytes : List ℕ) (count : ℕ) → length bytes ≡ 6 → Consumes r0 r1 (take count bytes) → IsAtEnd r1 → count < length bytes → (count ≡ 0 → ⊥) → IfSome r0 IsBad
+short_front None r1 bytes count six took at_end few some = tt
+short_front (Some xs) None bytes count six took at_end few some = absurd took
+short_front (Some xs) (Some ys) bytes count six took at_end few some =
+    let all : xs ≡ take count bytes = took ∙ ap (λ (z : List ℕ). take count bytes ++ z) at_end ∙ append-nil (take count bytes) in
+    let here : length (take count bytes) ≡ count = length-take-le count bytes (omega (arith, few)) in
+    subst (λ (z : List ℕ). IsBad z) (sym all) (few_are_bad (take count bytes) (omega (arith, here, some)) (omega (arith, here, six, few)))

@@ -1,5 +1,5 @@
 -- Answers that are gathered before they are written.
-use Rattle.std.specs.Prelude.{◌≡◌, ◌⊎◌, ℕ, List, [], ◌++◌, Option, take}
+use Rattle.std.specs.Prelude.{◌≡◌, ◌⊎◌, ◌+◌, ℕ, List, [], ◌++◌, Option, take}
 use Rattle.std.specs.Io.KnownBytes.{Appends}
 use Rattle.drda_node.specs.declared.serving.RunEnd.{RunEnd}
 use Rattle.drda_node.specs.declared.serving.RunEnd.TheVariants.{WriteFault}
@@ -19,3 +19,7 @@ abbrev pub Ends : Option (List ℕ) → List ℕ → RunEnd → RunEnd → Optio
 Ends before gathered end result now =
     ((result ≡ end) × Appends before now gathered)
     ⊎ ((result ≡ WriteFault) × ((count : ℕ) × Appends before now (take count gathered)))
+
+-- how many writes had failed before and behind it: one more exactly where that is told
+abbrev pub CountsEnd : RunEnd → RunEnd → ℕ → ℕ → Type 0
+CountsEnd end result old new = ((result ≡ end) × (new ≡ old)) ⊎ ((result ≡ WriteFault) × (new ≡ old + 1))

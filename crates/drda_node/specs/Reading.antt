@@ -1,5 +1,5 @@
 -- What reading an event from a stream gives.
-use Rattle.std.specs.Prelude.{◌≡◌, ◌<◌, ◌≤◌, ℕ, nat_le, Bool, false, List, [], ◌∷◌, take, length, Option, Some, None, IfSome}
+use Rattle.std.specs.Prelude.{◌≡◌, ◌<◌, ◌≤◌, ◌+◌, ℕ, nat_le, Bool, false, List, [], ◌∷◌, take, length, Option, Some, None, IfSome}
 use Rattle.std.specs.Int.{w32, from_be_bytes}
 use Rattle.std.specs.Io.KnownBytes.{Consumes, IsAtEnd}
 use Rattle.drda_node.specs.declared.event.Head.{Head}
@@ -45,6 +45,12 @@ Fills old new Whole bytes = Consumes old new bytes
 Fills old new (ended count) bytes = Consumes old new (take count bytes) × IsAtEnd new × (count < length bytes)
 Fills old new fault bytes = Unit {0}
 
+-- how many reads had failed before and behind it: one more exactly where that is told
+abbrev pub CountsFilling : Filled → ℕ → ℕ → Type 0
+CountsFilling Whole old new = new ≡ old
+CountsFilling (ended count) old new = new ≡ old
+CountsFilling fault old new = new ≡ old + 1
+
 pub record Receives (old new : Option (List ℕ)) (incoming : Event) : Type 0 where
   pub allowed : IsAllowed incoming
   pub consumed : Consumes old new (event_text incoming)
@@ -55,6 +61,12 @@ ReadsEvent old new (event head) bytes = Receives old new (event_of head bytes)
 ReadsEvent old new Ended bytes = IfSome old (λ left. left ≡ [])
 ReadsEvent old new Bad bytes = IfSome old IsBad
 ReadsEvent old new Fault bytes = Unit {0}
+
+abbrev pub CountsReading : Incoming → ℕ → ℕ → Type 0
+CountsReading (event head) old new = new ≡ old
+CountsReading Ended old new = new ≡ old
+CountsReading Bad old new = new ≡ old
+CountsReading Fault old new = new ≡ old + 1
 
 abbrev pub IsWithin : Incoming → Type 0
 IsWithin (event head) = size_of head ≤ 65536

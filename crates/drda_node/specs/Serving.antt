@@ -1,7 +1,8 @@
 -- What `run` writes for what it reads.
-use Rattle.std.specs.Prelude.{◌≡◌, ◌⊎◌, ℕ, true, List, [], ◌++◌, Option, take}
+use Rattle.std.specs.Prelude.{◌≡◌, ◌⊎◌, ◌+◌, ℕ, true, List, [], ◌++◌, Option, take}
 use Rattle.std.specs.List.{All, flat_map}
 use Rattle.std.specs.Io.KnownBytes.{Appends}
+use Rattle.counted_streams.specs.Faults.{Counts, NoneFails, ReadingFails}
 use Rattle.drda_node.specs.declared.serving.RunEnd.{RunEnd}
 use Rattle.drda_node.specs.declared.serving.RunEnd.TheVariants.{Ended, BadEvent, ReadFault, WriteFault, NoMemory}
 use Rattle.drda_node.specs.Machine.{Machine}
@@ -49,3 +50,17 @@ Runs first input before NoMemory now last = (rest : List ℕ) × (answered : Mac
 -- of such answers a prefix was written
 Runs first input before WriteFault now last =
     (written rest : List ℕ) × (count : ℕ) × (answered : Machine) × Answered first input written rest answered × Appends before now (take count written) × Leaves answered rest last
+
+-- one write has failed, and nothing else but perhaps the read in front of it
+pub record WritingFailsLast (old new : Counts) : Type 0 where
+  pub reading : (new.read_faults ≡ old.read_faults) ⊎ (new.read_faults ≡ old.read_faults + 1)
+  pub writing : new.write_faults ≡ old.write_faults + 1
+
+-- What had failed of both streams before and behind a run: a failed read is told only where a read has failed, or 2^63 were not enough,
+-- and a failed write exactly where a write has failed.
+abbrev pub TellsFaults : RunEnd → Counts → Counts → Type 0
+TellsFaults Ended old new = NoneFails old new
+TellsFaults BadEvent old new = NoneFails old new
+TellsFaults ReadFault old new = ReadingFails old new
+TellsFaults NoMemory old new = NoneFails old new
+TellsFaults WriteFault old new = WritingFailsLast old new

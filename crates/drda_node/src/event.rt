@@ -2,7 +2,7 @@
 
 ghost use Rattle.std.specs.Prelude.{◌≡◌, ◌∷◌, [], ◌++◌, ◌<◌, ◌^◌, OnOk, length};
 ghost use Rattle.std.specs.Int.{w32, to_be_bytes, from_be_bytes};
-ghost use Rattle.drda_node.specs.Reading.{IsHead};
+ghost use Rattle.drda_node.specs.Reading.{IsHead, holds_record};
 ghost use Rattle.drda_node.specs.Records.{record_text};
 
 use std::alloc::AllocError;
@@ -49,6 +49,16 @@ pub(crate) fn number_in(first: u8, second: u8, third: u8, fourth: u8) -> u32
     ensures value { result ≡ from_be_bytes w32 (first ∷ second ∷ third ∷ fourth ∷ []) }
 {
     u32::from_be_bytes([first, second, third, fourth])
+}
+
+/// Whether bytes begin with a whole record.
+pub(crate) fn holds_record(bytes: &[u8]) -> bool
+    ensures { result ≡ holds_record bytes.now }
+{
+    let [_, _, a, b, c, d, data @ ..] = bytes else {
+        return false;
+    };
+    number_in(*a, *b, *c, *d) as usize <= data.len()
 }
 
 /// Appends a record.

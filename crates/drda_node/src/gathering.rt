@@ -2,30 +2,29 @@
 
 ghost use Rattle.std.specs.Prelude.{◌≡◌, ◌++◌, [], if◌then◌else◌, OnErr, OnOk};
 ghost use Rattle.std.specs.Io.KnownBytes.{Appends};
-ghost use Rattle.drda_node.specs.Gathering.{Ends, PassesOn, WritesFront};
+ghost use Rattle.counted_streams.specs.Counts.{sink_of, write_faults_of};
+ghost use Rattle.counted_streams.specs.Faults.{CountsFault};
+ghost use Rattle.drda_node.specs.Gathering.{CountsEnd, Ends, PassesOn, WritesFront};
 
 use crate::serving::RunEnd;
-use conversation::write_whole;
+use counted_streams::{StreamFault, Writer};
 use std::io::Write;
 
 /// The most bytes of answers that are gathered.
 pub(crate) const MAX_GATHERED_BYTES: usize = 65536;
 
-/// Writing failed.
-#[derive(Clone, Copy)]
-pub(crate) struct Unwritten;
-
 /// Writes an answer behind those that were gathered; or gathers it too, where that is few bytes together and
 /// nobody waits for it.
 #[inline(always)]
 pub(crate) fn pass_on<W: Write>(
-    writer: &mut W,
+    writer: &mut Writer<W>,
     gathered: &mut Vec<u8>,
     answer: &[u8],
     waits: bool,
-) -> Result<(), Unwritten>
-    ensures ok { OnOk result (PassesOn (W.contents writer.old) gathered.old.items answer.now (W.contents writer.new) gathered.new.items) }
-    ensures err { OnErr result (WritesFront (W.contents writer.old) (W.contents writer.new) gathered.old.items answer.now) }
+) -> Result<(), StreamFault>
+    ensures ok { OnOk result (PassesOn (W.contents (sink_of writer.old)) gathered.old.items answer.now (W.contents (sink_of writer.new)) gathered.new.items) }
+    ensures err { OnErr result (WritesFront (W.contents (sink_of writer.old)) (W.contents (sink_of writer.new)) gathered.old.items answer.now) }
+    ensures faults { CountsFault result (write_faults_of writer.old) (write_faults_of writer.new) }
 {
     if waits && gathered.is_empty() || !gathers(gathered, answer) {
         return write_both(writer, gathered, answer);
@@ -39,20 +38,21 @@ pub(crate) fn pass_on<W: Write>(
 // Writes what was gathered and an answer behind it.
 #[inline(never)]
 fn write_both<W: Write>(
-    writer: &mut W,
+    writer: &mut Writer<W>,
     gathered: &mut Vec<u8>,
     answer: &[u8],
-) -> Result<(), Unwritten>
-    ensures ok { OnOk result (Appends (W.contents writer.old) (W.contents writer.new) (gathered.old.items ++ answer.now)) }
+) -> Result<(), StreamFault>
+    ensures ok { OnOk result (Appends (W.contents (sink_of writer.old)) (W.contents (sink_of writer.new)) (gathered.old.items ++ answer.now)) }
     ensures none { OnOk result (gathered.new.items ≡ []) }
-    ensures err { OnErr result (WritesFront (W.contents writer.old) (W.contents writer.new) gathered.old.items answer.now) }
+    ensures err { OnErr result (WritesFront (W.contents (sink_of writer.old)) (W.contents (sink_of writer.new)) gathered.old.items answer.now) }
+    ensures faults { CountsFault result (write_faults_of writer.old) (write_faults_of writer.new) }
 {
-    let Ok(()) = write_whole(writer, gathered) else {
-        return Err(Unwritten);
+    let Ok(()) = writer.write_whole(gathered) else {
+        return Err(StreamFault);
     };
     gathered.clear();
-    let Ok(()) = write_whole(writer, answer) else {
-        return Err(Unwritten);
+    let Ok(()) = writer.write_whole(answer) else {
+        return Err(StreamFault);
     };
     Ok(())
 }
@@ -68,10 +68,11 @@ fn gathers(gathered: &mut Vec<u8>, answer: &[u8]) -> bool
 }
 
 /// Writes what was gathered, and says how the run ends then.
-pub(crate) fn finish<W: Write>(writer: &mut W, gathered: &[u8], end: RunEnd) -> RunEnd
-    ensures { Ends (W.contents writer.old) gathered.now end result (W.contents writer.new) }
+pub(crate) fn finish<W: Write>(writer: &mut Writer<W>, gathered: &[u8], end: RunEnd) -> RunEnd
+    ensures ends { Ends (W.contents (sink_of writer.old)) gathered.now end result (W.contents (sink_of writer.new)) }
+    ensures faults { CountsEnd end result (write_faults_of writer.old) (write_faults_of writer.new) }
 {
-    match write_whole(writer, gathered) {
+    match writer.write_whole(gathered) {
         Ok(()) => end,
         Err(_) => RunEnd::WriteFault,
     }

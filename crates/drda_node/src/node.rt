@@ -252,13 +252,6 @@ impl<D: Disk> Node<D> {
         end_units(&mut self.core, &mut self.calls, place as u64);
     }
 
-    /// Whether a checkpoint is worth its writes, as the core says. Makes no device call.
-    pub fn is_checkpoint_due(&self) -> bool
-        ensures { (machine self.now).core.has_failed ≡ true → result ≡ false }
-    {
-        self.core.is_checkpoint_due()
-    }
-
     /// Checkpoints the store. The conversations and what their core has done stay: once the checkpoint is
     /// written the core has the room that it leaves; at `Full`, `NoMemory` and `Closed` nothing changes; at
     /// `DeviceFailed` the device has failed in it. A crash at any moment leaves a disk that opens to the

@@ -1,10 +1,11 @@
 //! Reading events from a stream of records.
 
-ghost use Rattle.std.specs.Prelude.{◌≡◌, ◌≤◌, None, IfSome, length};
-ghost use Rattle.drda_node.specs.Reading.{Fills, IsWithin, Receives, ReadsEvent, event_of, size_of};
+ghost use Rattle.std.specs.Prelude.{◌≡◌, ◌<◌, ◌≤◌, ◌+◌, None, IfSome, length, min};
+ghost use Rattle.counted_streams.specs.Counts.{read_faults_of, reads_of, source_of};
+ghost use Rattle.drda_node.specs.Reading.{CountsFilling, CountsReading, Fills, IsWithin, Receives, ReadsEvent, event_of, size_of};
 
 use crate::event::{HEAD_SIZE, Head, head_of, number_in};
-use crate::ready::Ready;
+use counted_streams::{Reader, Ready};
 use std::io::Read;
 
 /// How a buffer was filled.
@@ -31,30 +32,31 @@ pub(crate) enum Incoming {
     Fault,
 }
 
-/// Reads until the buffer is full. It gives up after 2^63 reads.
-fn fill<R: Read>(reader: &mut R, buffer: &mut [u8]) -> Filled
-    ensures { Fills (R.remaining reader.old) (R.remaining reader.new) result buffer.new }
+/// Reads until the buffer is full.
+fn fill<R: Read>(reader: &mut Reader<R>, buffer: &mut [u8]) -> Filled
+    ensures fills { Fills (R.remaining (source_of reader.old)) (R.remaining (source_of reader.new)) result buffer.new }
+    ensures made { reads_of reader.old + min 1 (length buffer.old) ≤ reads_of reader.new }
+    ensures faults { CountsFilling result (read_faults_of reader.old) (read_faults_of reader.new) }
 {
     let mut at = 0;
-    'reading: for _ in 0..1u64 << 63 {
-        if at >= buffer.len() {
-            return Filled::Whole;
-        }
+    'reading: while at < buffer.len() {
         match reader.read(&mut buffer[at..]) {
             Ok(0) => return Filled::Ended(at),
             Ok(count) => at += count,
             Err(_) => return Filled::Fault,
         }
     }
-    Filled::Fault
+    Filled::Whole
 }
 
 /// Reads an event. One whose record lies ready is taken at once; of any other the first six bytes are
 /// judged before its others are read.
-pub(crate) fn read_event<R: Ready>(reader: &mut R, buffer: &mut [u8]) -> Incoming
+pub(crate) fn read_event<R: Ready>(reader: &mut Reader<R>, buffer: &mut [u8]) -> Incoming
     requires { length buffer.old ≡ 65536 }
-    ensures reads { ReadsEvent (R.remaining reader.old) (R.remaining reader.new) result buffer.new }
+    ensures reads { ReadsEvent (R.remaining (source_of reader.old)) (R.remaining (source_of reader.new)) result buffer.new }
     ensures within { IsWithin result }
+    ensures made { reads_of reader.old < reads_of reader.new }
+    ensures faults { CountsReading result (read_faults_of reader.old) (read_faults_of reader.new) }
 {
     match take_ready(reader, buffer) {
         Some(head) => Incoming::Event(head),
@@ -64,11 +66,14 @@ pub(crate) fn read_event<R: Ready>(reader: &mut R, buffer: &mut [u8]) -> Incomin
 
 // Takes an event whose record lies ready, its bytes to the front of the buffer; where there is none, nothing.
 #[inline(always)]
-fn take_ready<R: Ready>(reader: &mut R, buffer: &mut [u8]) -> Option<Head>
+fn take_ready<R: Ready>(reader: &mut Reader<R>, buffer: &mut [u8]) -> Option<Head>
     requires { length buffer.old ≡ 65536 }
-    ensures takes { IfSome result (λ head. Receives (R.remaining reader.old) (R.remaining reader.new) (event_of head buffer.new)) }
+    ensures takes { IfSome result (λ head. Receives (R.remaining (source_of reader.old)) (R.remaining (source_of reader.new)) (event_of head buffer.new)) }
     ensures within { IfSome result (λ head. size_of head ≤ 65536) }
-    ensures none { result ≡ None → R.remaining reader.new ≡ R.remaining reader.old }
+    ensures some { IfSome result (λ head. reads_of reader.old < reads_of reader.new) }
+    ensures later { reads_of reader.old ≤ reads_of reader.new }
+    ensures faults { read_faults_of reader.new ≡ read_faults_of reader.old }
+    ensures none { result ≡ None → R.remaining (source_of reader.new) ≡ R.remaining (source_of reader.old) }
 {
     let [kind, number, a, b, c, d, data @ ..] = reader.ready() else {
         return None;
@@ -82,10 +87,12 @@ fn take_ready<R: Ready>(reader: &mut R, buffer: &mut [u8]) -> Option<Head>
 }
 
 // Reads an event, and waits for its bytes.
-fn await_event<R: Read>(reader: &mut R, buffer: &mut [u8]) -> Incoming
+fn await_event<R: Read>(reader: &mut Reader<R>, buffer: &mut [u8]) -> Incoming
     requires { length buffer.old ≡ 65536 }
-    ensures reads { ReadsEvent (R.remaining reader.old) (R.remaining reader.new) result buffer.new }
+    ensures reads { ReadsEvent (R.remaining (source_of reader.old)) (R.remaining (source_of reader.new)) result buffer.new }
     ensures within { IsWithin result }
+    ensures made { reads_of reader.old < reads_of reader.new }
+    ensures faults { CountsReading result (read_faults_of reader.old) (read_faults_of reader.new) }
 {
     let mut front = [0u8; HEAD_SIZE];
     match fill(reader, &mut front) {

@@ -1,22 +1,26 @@
 //! Serving a stream of events.
 
 ghost use Rattle.std.specs.Prelude.{IfSome};
+ghost use Rattle.counted_streams.specs.Counts.{counts, sink_of, source_of};
 ghost use Rattle.drda_node.specs.Asking.{IsJournaled};
 ghost use Rattle.drda_node.specs.Calls.{HasHistory};
 ghost use Rattle.drda_node.specs.Register.{core_in, machine};
-ghost use Rattle.drda_node.specs.Serving.{Runs};
+ghost use Rattle.drda_node.specs.Serving.{TellsFaults, Runs};
 ghost use Rattle.drda_node.specs.Stations.{RunsAlong, first_station};
 
 use crate::answering::answer;
-use crate::event::MAX_DATA_BYTES;
+use crate::event::{MAX_DATA_BYTES, holds_record};
 use crate::gathering::{finish, pass_on};
 use crate::node::Node;
 use crate::reading::{Incoming, read_event};
-use crate::ready::{Ready, holds_record};
+use counted_streams::{Reader, Ready, Writer};
 use drda_disk::Disk;
 use recovery::images::calls_go_on;
 use std::alloc::{AllocError, Global};
 use std::io::Write;
+
+/// So many events are answered at most.
+const MOST_EVENTS: u64 = 1 << 63;
 
 /// How a run ended.
 #[derive(Clone, Copy, Debug, PartialEq, Eq)]
@@ -51,15 +55,16 @@ pub enum RunEnd {
 pub fn run<D: Disk, R: Ready, W: Write>(
     alloc: Global,
     node: &mut Node<D>,
-    reader: &mut R,
-    writer: &mut W,
+    reader: &mut Reader<R>,
+    writer: &mut Writer<W>,
 ) -> RunEnd
-    ensures runs { IfSome (R.remaining reader.old) (λ input.
-        Runs (machine node.old) input (W.contents writer.old) result (W.contents writer.new) (machine node.new)) }
-    ensures stations { IfSome (R.remaining reader.old) (λ input.
-        RunsAlong D.is_modelled D.life (first_station (machine node.old) (core_in node.old)) input (W.contents writer.old) (W.contents writer.new) (core_in node.new)) }
+    ensures runs { IfSome (R.remaining (source_of reader.old)) (λ input.
+        Runs (machine node.old) input (W.contents (sink_of writer.old)) result (W.contents (sink_of writer.new)) (machine node.new)) }
+    ensures stations { IfSome (R.remaining (source_of reader.old)) (λ input.
+        RunsAlong D.is_modelled D.life (first_station (machine node.old) (core_in node.old)) input (W.contents (sink_of writer.old)) (W.contents (sink_of writer.new)) (core_in node.new)) }
     ensures history { HasHistory (machine node.old).core (machine node.new).core }
     ensures journaled { IsJournaled D.is_modelled D.life (core_in node.old) (core_in node.new) }
+    ensures cause { TellsFaults result (counts reader.old writer.old) (counts reader.new writer.new) }
 {
     calls_go_on::<D>();
     node.core.is_durable();
@@ -68,7 +73,7 @@ pub fn run<D: Disk, R: Ready, W: Write>(
     };
     let mut text = Vec::new(alloc);
     let mut gathered = Vec::new(alloc);
-    'events: for _ in 0..1u64 << 63 {
+    'events: for _answered in 0..MOST_EVENTS {
         match read_event(reader, &mut buffer) {
             Incoming::Event(head) => {
                 let Ok(()) = answer(node, head, &buffer, &mut text) else {

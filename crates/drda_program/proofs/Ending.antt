@@ -3,6 +3,7 @@ use Rattle.std.proofs.Common.{◌≡◌, ◌≢◌, ◌⊎◌, ◌∙◌, refl, 
 use Rattle.std.specs.Io.KnownBytes.{Appends}
 use Rattle.std.proofs.Math.Seq.{take-nil}
 use Rattle.std.proofs.KnownBytes.{Appends-nil, Appends-trans}
+use Rattle.counted_streams.specs.Faults.{Counts}
 use Rattle.command_line.specs.Job.{Job}
 use Rattle.command_line.specs.Reading.{Says, Tells}
 use Rattle.command_line.specs.declared.words.BadWords.{BadWords}
@@ -16,19 +17,19 @@ use Rattle.store_files.specs.declared.fault.Fault.TheVariants.{BadArguments, Dev
 
 -- ---- words
 
-module _ {F D N L S W : Type 0} (around : Surroundings F D N L S W) (syncs : D → Bool → D → Type 0) (input : Option (List ℕ)) where
+module _ {F D N L S W : Type 0} (around : Surroundings F D N L S W) (syncs : D → Bool → D → Type 0) (input : Option (List ℕ)) (counted counted' : Counts) where
   -- the job was done, or memory was refused before it was known
   abbrev pub Tried : Option Job → Seen F N → Result (Unit {0}) Fault → Seen F N → Type 0
-  Tried said old outcome new = ((outcome ≡ Err NoMemory) × (new ≡ old)) ⊎ Does around syncs said input old outcome new
+  Tried said old outcome new = ((outcome ≡ Err NoMemory) × (new ≡ old)) ⊎ Does around syncs said input counted old outcome counted' new
 
   pub no_job : (said : Option Job) (old : Seen F N) (bad : BadWords) → Says said (Err bad) → Tried said old (Err (fault_of_words bad)) old
-  no_job said old words.NoJob is = inr (subst (λ (s : Option Job). Does around syncs s input old (Err BadArguments) old) (sym is) (refl, refl))
+  no_job said old words.NoJob is = inr (subst (λ (s : Option Job). Does around syncs s input counted old (Err BadArguments) counted' old) (sym is) (refl, refl))
   no_job said old words.NoMemory is = inl (refl, refl)
 
-  pub has_done : (said : Option Job) (job : Job) (old new : Seen F N) (outcome : Result (Unit {0}) Fault) → said ≡ Some job → Does around syncs (Some job) input old outcome new → Tried said old outcome new
-  has_done said job old new outcome is does = inr (subst (λ (s : Option Job). Does around syncs s input old outcome new) (sym is) does)
+  pub has_done : (said : Option Job) (job : Job) (old new : Seen F N) (outcome : Result (Unit {0}) Fault) → said ≡ Some job → Does around syncs (Some job) input counted old outcome counted' new → Tried said old outcome new
+  has_done said job old new outcome is does = inr (subst (λ (s : Option Job). Does around syncs s input counted old outcome counted' new) (sym is) does)
 
-  pub succeeds : (said : Option Job) (old new : Seen F N) (err : Option (List ℕ)) → Tried said old (Ok tt) new → Exits around syncs said input old 0 new err err
+  pub succeeds : (said : Option Job) (old new : Seen F N) (err : Option (List ℕ)) → Tried said old (Ok tt) new → Exits around syncs said input counted old 0 counted' new err err
   succeeds said old new err does = record {
     outcome = Ok tt;
     does = does;
@@ -42,7 +43,7 @@ module _ {F D N L S W : Type 0} (around : Surroundings F D N L S W) (syncs : D �
   -- behind the text on bad words, a reason is told of a device alone
   pub exits : (said : Option Job) (old new : Seen F N) (err mid later err' : Option (List ℕ)) (fault : Fault) (status : ℕ) (text : List ℕ) → status ≡ status_for fault → Tried said old (Err fault) new → (said ≢ None → fault ≢ BadArguments → text ≡ [])
       → (count : ℕ) × Appends err mid (take count text) → (reason : List ℕ) × (fault ≢ Device → reason ≡ []) × Appends mid later reason
-      → (count : ℕ) × Appends later err' (take count (line_for fault)) → Exits around syncs said input old status new err err'
+      → (count : ℕ) × Appends later err' (take count (line_for fault)) → Exits around syncs said input counted old status counted' new err err'
   exits said old new err mid later err' fault status text is does quiet (n, told) (reason, of_device, explained) (count, wrote) = record {
     outcome = Err fault;
     does = does;

@@ -1,5 +1,5 @@
 -- What is reported of words, and of a run over a core.
-use Rattle.std.specs.Prelude.{◌≡◌, Bool, true, false, List, ℕ, Option, Result, Ok, Err}
+use Rattle.std.specs.Prelude.{◌≡◌, ◌+◌, Bool, true, false, List, ℕ, Option, Result, Ok, Err}
 use Rattle.std.specs.Io.KnownBytes.{Keeps}
 use Rattle.durable_core.specs.declared.errors.OpenError.{OpenError}
 use Rattle.drda_node.specs.declared.serving.RunEnd.{RunEnd}
@@ -25,7 +25,12 @@ result_for ends.ReadFault true = Err Device
 result_for ends.WriteFault true = Err Device
 result_for ends.NoMemory true = Err NoMemory
 
--- how it ended, behind a last flush; or why it was refused
-abbrev pub Reports : Result RunEnd OpenError → Option (List ℕ) → Result (Unit {0}) Fault → Option (List ℕ) → Type 0
-Reports (Ok end) before outcome now = Keeps before now × ((is_flushed : Bool) × (outcome ≡ result_for end is_flushed))
-Reports (Err error) before outcome now = (now ≡ before) × (outcome ≡ Err (fault_for error))
+-- a flush that fails is one failed write more
+abbrev pub CountsFlush : Bool → ℕ → ℕ → Type 0
+CountsFlush true old new = new ≡ old
+CountsFlush false old new = new ≡ old + 1
+
+-- how it ended, behind a last flush; or why it was refused. `faults` is how many writes had failed
+abbrev pub Reports : Result RunEnd OpenError → Option (List ℕ) → ℕ → Result (Unit {0}) Fault → Option (List ℕ) → ℕ → Type 0
+Reports (Ok end) before faults outcome now faults' = Keeps before now × ((is_flushed : Bool) × (outcome ≡ result_for end is_flushed) × CountsFlush is_flushed faults faults')
+Reports (Err error) before faults outcome now faults' = (now ≡ before) × (outcome ≡ Err (fault_for error)) × (faults' ≡ faults)

@@ -8,12 +8,12 @@ mod program;
 mod records;
 mod version;
 
-// What a stream tells of that is read.
-pub use drda_node::Ready;
+// What event records come in on and go out on.
+pub use counted_streams::{Reader, Ready, Writer};
 // What conversations come over, and who is told what becomes of them.
 pub use drda_server::{
-    ErrorLog, Failure, Log, Name, Network, Notice, Outcome, Rules, Served, Silent, Streams,
-    SystemNetwork, serve_streams,
+    ErrorLog, Failure, Gauge, Lack, Log, Name, Network, Notice, Outcome, Part, Rules, Served,
+    Silent, Streams, SystemNetwork, serve_streams,
 };
 pub use program::run_words;
 pub use store_files::{Fault, StoreFiles, SystemFiles};

@@ -1,15 +1,17 @@
 //! Who may open the database.
 
 ghost use Rattle.std.specs.Prelude.{option_map, string_bytes};
+ghost use Rattle.counted_streams.specs.Counts.{counts, sink_of, source_of};
 ghost use Rattle.command_line.specs.Job.{plain_login, plain_source};
 ghost use Rattle.drda_program.specs.LoggingIn.{FindsLogin, LogsIn, ReadsSource, net_and_out};
 ghost use Rattle.drda_program.specs.Program.{PipesOver};
+ghost use Rattle.drda_program.specs.Streams.{streams};
 ghost use Rattle.drda_server.specs.Serving.{ServesFile, seen, surroundings};
 ghost use Rattle.store_files.specs.Stores.{IsOfDevice};
 
 use crate::records::{answer_file, answer_in_memory};
 use command_line::{Login, LoginSource, ServeOptions, login_in_file};
-use drda_node::Ready;
+use counted_streams::{Reader, Ready, Writer};
 use drda_server::{Log, Network, serve_file};
 use std::alloc::Global;
 use std::io::{self, ErrorKind, Read, Write};
@@ -56,11 +58,11 @@ pub(crate) fn pipe<F: StoreFiles, R: Read + Ready, W: Write>(
     path: Option<&str>,
     rdb: &str,
     source: LoginSource<'_>,
-    reader: &mut R,
-    out: &mut W,
+    reader: &mut Reader<R>,
+    out: &mut Writer<W>,
 ) -> Result<(), Fault>
-    ensures { LogsIn F.calls (plain_source source.entry) files.old (W.contents out.old) result files.new (W.contents out.new) (λ login mid.
-        PipesOver F.Disk.is_modelled F.Disk.life F.calls F.Disk.syncs (option_map (λ p. p.now) path.entry) rdb.now login mid (R.remaining reader.old) (W.contents out.old) result files.new (W.contents out.new)) }
+    ensures { LogsIn F.calls (plain_source source.entry) files.old (streams (W.contents (sink_of out.old)) (counts reader.old out.old)) result files.new (streams (W.contents (sink_of out.new)) (counts reader.new out.new)) (λ login mid.
+        PipesOver F.Disk.is_modelled F.Disk.life F.calls F.Disk.syncs (option_map (λ p. p.now) path.entry) rdb.now login mid (R.remaining (source_of reader.old)) (streams (W.contents (sink_of out.old)) (counts reader.old out.old)) result files.new (streams (W.contents (sink_of out.new)) (counts reader.new out.new))) }
 {
     let text = read_source(alloc, files, source)?;
     let login = login_by(source, &text)?;
@@ -73,10 +75,10 @@ fn pipe_by<F: StoreFiles, R: Read + Ready, W: Write>(
     path: Option<&str>,
     rdb: &str,
     login: Login<'_>,
-    reader: &mut R,
-    out: &mut W,
+    reader: &mut Reader<R>,
+    out: &mut Writer<W>,
 ) -> Result<(), Fault>
-    ensures { PipesOver F.Disk.is_modelled F.Disk.life F.calls F.Disk.syncs (option_map (λ p. p.now) path.entry) rdb.now (plain_login login.entry) files.old (R.remaining reader.old) (W.contents out.old) result files.new (W.contents out.new) }
+    ensures { PipesOver F.Disk.is_modelled F.Disk.life F.calls F.Disk.syncs (option_map (λ p. p.now) path.entry) rdb.now (plain_login login.entry) files.old (R.remaining (source_of reader.old)) (streams (W.contents (sink_of out.old)) (counts reader.old out.old)) result files.new (streams (W.contents (sink_of out.new)) (counts reader.new out.new)) }
 {
     match path {
         None => answer_in_memory(alloc, rdb, login, reader, out),

@@ -2,6 +2,7 @@
 
 ghost use Rattle.std.specs.Prelude.{◌≡◌, ◌≢◌, ◌⊎◌, ℕ, [], Err, List, None, Some, map, string_bytes};
 ghost use Rattle.std.specs.Io.KnownBytes.{Appends};
+ghost use Rattle.counted_streams.specs.Counts.{counts, sink_of, source_of};
 ghost use Rattle.command_line.specs.Job.{plain_job, said};
 ghost use Rattle.drda_program.specs.Deciding.{DecidesFile};
 ghost use Rattle.drda_program.specs.Program.{Does, Exits, Makes};
@@ -14,8 +15,9 @@ use crate::logins::{pipe, serve};
 use crate::version::tell_version;
 use command_line::{BadWords, Job, job_of};
 use conversation::write_whole;
-use drda_node::Ready;
+use counted_streams::{Reader, Ready, Writer};
 use drda_server::{Log, Network};
+use grown_stores::grow_file;
 use std::alloc::Global;
 use std::convert::AsStr;
 use std::io::{Read, Write};
@@ -46,6 +48,7 @@ use xa_manager::Decision;
 /// - `check PATH` says that a store is whole, where it is.
 /// - `tables PATH` prints the CREATE TABLE of each table, with its rows and pages in a comment.
 /// - `dump PATH` prints the SQL that makes the tables anew, behind a comment for each unit in doubt.
+/// - `grow PATH NEW --size N` moves a store into a new file of so many bytes, and says so.
 /// - `version` tells the program's version.
 ///
 /// In the place of `--user U:P` may stand `--user-file FILE`, a file that holds U:P.
@@ -53,7 +56,8 @@ use xa_manager::Decision;
 /// The status is 0 where the job was done; 1 where the words ask for none, for a store of a size or
 /// name that none has, or for a login in a file that holds none; 2 where a file, a port or a stream failed, the last flush included; 3 where a file
 /// is no store or a damaged one; 4 where what came is no event; 5 where memory was refused; 6 where no unit of the XID
-/// waits for its decision; 7 where the checkpoint before a decision has no room, and the store stays as it was.
+/// waits for its decision; 7 where the checkpoint before a decision has no room, and the store stays as it was, or a store
+/// is to be moved into a size that is no store's, or a smaller one's.
 ///
 /// Of a store in a file all is said of the disk that opening its path gave: `indoubt` lists the units in
 /// doubt of the state that it opens to, in the order of their bytes; `pipe` answers as a machine does that
@@ -77,8 +81,8 @@ pub fn run_words<
     files: &mut F,
     net: &mut N,
     log: &L,
-    reader: &mut R,
-    out: &mut W,
+    reader: &mut Reader<R>,
+    out: &mut Writer<W>,
     err: &mut E,
 ) -> u8
 where
@@ -86,7 +90,7 @@ where
     N::Stream: Send,
     N::Writer: Send,
     ensures { Exits (surroundings F.calls F.Disk.is_modelled F.Disk.life N.calls N.Stream.remaining N.Writer.contents) F.Disk.syncs (said (map S.text words.now))
-        (R.remaining reader.old) (seen files.old net.old (W.contents out.old)) result (seen files.new net.new (W.contents out.new))
+        (R.remaining (source_of reader.old)) (counts reader.old out.old) (seen files.old net.old (W.contents (sink_of out.old))) result (counts reader.new out.new) (seen files.new net.new (W.contents (sink_of out.new)))
         (E.contents err.old) (E.contents err.new) }
 {
     let mut text = String::new(alloc);
@@ -137,17 +141,17 @@ fn try_words<
     files: &mut F,
     net: &mut N,
     log: &L,
-    reader: &mut R,
-    out: &mut W,
+    reader: &mut Reader<R>,
+    out: &mut Writer<W>,
     text: &mut String,
 ) -> Result<(), Fault>
 where
     F::Disk: Send,
     N::Stream: Send,
     N::Writer: Send,
-    ensures does { ((result ≡ Err Fault.NoMemory) × (seen files.new net.new (W.contents out.new) ≡ seen files.old net.old (W.contents out.old)))
+    ensures does { ((result ≡ Err Fault.NoMemory) × (seen files.new net.new (W.contents (sink_of out.new)) ≡ seen files.old net.old (W.contents (sink_of out.old))))
         ⊎ Does (surroundings F.calls F.Disk.is_modelled F.Disk.life N.calls N.Stream.remaining N.Writer.contents) F.Disk.syncs (said (map S.text words.now))
-        (R.remaining reader.old) (seen files.old net.old (W.contents out.old)) result (seen files.new net.new (W.contents out.new)) }
+        (R.remaining (source_of reader.old)) (counts reader.old out.old) (seen files.old net.old (W.contents (sink_of out.old))) result (counts reader.new out.new) (seen files.new net.new (W.contents (sink_of out.new))) }
     ensures quiet { said (map S.text words.now) ≢ None → result ≢ Err Fault.BadArguments → string_bytes text.new ≡ string_bytes text.old }
 {
     match job_of(alloc, words, text) {
@@ -184,15 +188,15 @@ fn do_job<
     files: &mut F,
     net: &mut N,
     log: &L,
-    reader: &mut R,
-    out: &mut W,
+    reader: &mut Reader<R>,
+    out: &mut Writer<W>,
 ) -> Result<(), Fault>
 where
     F::Disk: Send,
     N::Stream: Send,
     N::Writer: Send,
     ensures { Does (surroundings F.calls F.Disk.is_modelled F.Disk.life N.calls N.Stream.remaining N.Writer.contents) F.Disk.syncs (Some (plain_job job.now))
-        (R.remaining reader.old) (seen files.old net.old (W.contents out.old)) result (seen files.new net.new (W.contents out.new)) }
+        (R.remaining (source_of reader.old)) (counts reader.old out.old) (seen files.old net.old (W.contents (sink_of out.old))) result (counts reader.new out.new) (seen files.new net.new (W.contents (sink_of out.new))) }
 {
     match job {
         Job::Init { path, size, rdb } => init(alloc, files, path, *size, rdb, out),
@@ -215,6 +219,7 @@ where
         Job::Check { path } => check(alloc, files, path, out),
         Job::Tables { path } => list_tables(alloc, files, path, out),
         Job::Dump { path } => dump(alloc, files, path, out),
+        Job::Grow { path, new, size } => grow_file(alloc, files, path, new, *size, out),
         Job::Version => tell_version(out),
     }
 }

@@ -1,16 +1,19 @@
 //! Event records on two streams.
 
 ghost use Rattle.std.specs.Prelude.{◌≡◌};
+ghost use Rattle.counted_streams.specs.Counts.{counts, sink_of, source_of, write_faults_of};
 ghost use Rattle.command_line.specs.Job.{plain_login};
 ghost use Rattle.drda_program.specs.Reporting.{result_for};
 ghost use Rattle.drda_program.specs.Program.{AnswersOver, PipesFile, PipesInMemory};
 ghost use Rattle.drda_program.specs.Reporting.{Reports};
+ghost use Rattle.drda_program.specs.Streams.{streams};
 
 use command_line::Login;
+use counted_streams::{Reader, Ready, Writer};
 use drda_disk::Disk;
 use drda_node::laws::calls_are_histories;
 use drda_node::serial::machines_are_serial;
-use drda_node::{DurableCore, Ready, RunEnd};
+use drda_node::{DurableCore, RunEnd};
 use durable_core::OpenError;
 use recovery::openings::openings_begin_histories;
 use recovery::step_laws::openings_are_kept;
@@ -35,8 +38,8 @@ fn result_of(end: RunEnd, is_flushed: bool) -> Result<(), Fault>
 }
 
 // What is reported of a run that ended, behind a last flush, or of one that was refused.
-fn report<W: Write>(ended: Result<RunEnd, OpenError>, out: &mut W) -> Result<(), Fault>
-    ensures { Reports ended (W.contents out.old) result (W.contents out.new) }
+fn report<W: Write>(ended: Result<RunEnd, OpenError>, out: &mut Writer<W>) -> Result<(), Fault>
+    ensures { Reports ended (W.contents (sink_of out.old)) (write_faults_of out.old) result (W.contents (sink_of out.new)) (write_faults_of out.new) }
 {
     match ended {
         Ok(end) => {
@@ -52,10 +55,10 @@ fn answer_records<D: Disk + Drop, R: Read + Ready, W: Write>(
     alloc: Global,
     core: DurableCore<D>,
     login: Login<'_>,
-    reader: &mut R,
-    out: &mut W,
+    reader: &mut Reader<R>,
+    out: &mut Writer<W>,
 ) -> Result<(), Fault>
-    ensures { AnswersOver D.is_modelled D.life core (plain_login login.entry) (R.remaining reader.old) (W.contents out.old) result (W.contents out.new) }
+    ensures { AnswersOver D.is_modelled D.life core (plain_login login.entry) (R.remaining (source_of reader.old)) (streams (W.contents (sink_of out.old)) (counts reader.old out.old)) result (streams (W.contents (sink_of out.new)) (counts reader.new out.new)) }
 {
     let (_, ended) = run_core(alloc, core, login.user, login.password, reader, out);
     report(ended, out)
@@ -67,10 +70,10 @@ pub(crate) fn answer_file<F: StoreFiles, R: Read + Ready, W: Write>(
     files: &mut F,
     path: &str,
     login: Login<'_>,
-    reader: &mut R,
-    out: &mut W,
+    reader: &mut Reader<R>,
+    out: &mut Writer<W>,
 ) -> Result<(), Fault>
-    ensures { PipesFile F.Disk.is_modelled F.Disk.life F.calls F.Disk.syncs path.now (plain_login login.entry) files.old (R.remaining reader.old) (W.contents out.old) result files.new (W.contents out.new) }
+    ensures { PipesFile F.Disk.is_modelled F.Disk.life F.calls F.Disk.syncs path.now (plain_login login.entry) files.old (R.remaining (source_of reader.old)) (streams (W.contents (sink_of out.old)) (counts reader.old out.old)) result files.new (streams (W.contents (sink_of out.new)) (counts reader.new out.new)) }
 {
     openings_begin_histories();
     openings_are_kept();
@@ -87,10 +90,10 @@ pub(crate) fn answer_in_memory<R: Read + Ready, W: Write>(
     alloc: Global,
     rdb: &str,
     login: Login<'_>,
-    reader: &mut R,
-    out: &mut W,
+    reader: &mut Reader<R>,
+    out: &mut Writer<W>,
 ) -> Result<(), Fault>
-    ensures { PipesInMemory rdb.now (plain_login login.entry) (R.remaining reader.old) (W.contents out.old) result (W.contents out.new) }
+    ensures { PipesInMemory rdb.now (plain_login login.entry) (R.remaining (source_of reader.old)) (streams (W.contents (sink_of out.old)) (counts reader.old out.old)) result (streams (W.contents (sink_of out.new)) (counts reader.new out.new)) }
 {
     openings_begin_histories();
     openings_are_kept();

@@ -8,7 +8,7 @@ use Rattle.session_commands.specs.Settings.{Settings}
 use Rattle.command_line.specs.declared.job.ServeOptions.{ServeOptions}
 use Rattle.drda_server.specs.Listening.{IsLetIn, LetsNext, MayStop, ServesStreams, most}
 use Rattle.drda_server.specs.Network.{ClosesAtOnce, FailsToLetIn, NetworkCalls}
-use Rattle.drda_server.specs.Threads.{Came, Given, IsAttended, IsTurnedAway, ServesAll}
+use Rattle.drda_server.specs.Threads.{Came, Given, IsReceived, IsTurnedAway, ServesAll}
 use Rattle.core_history.specs.declared.pass.Pass.{Pass}
 
 all_both : {X : Type 0} (P : X → Type 0) (xs ys : List X) → AllByRecursion P xs → AllByRecursion P ys → AllByRecursion P (xs ++ ys)
@@ -131,7 +131,7 @@ module _ {N L S W : Type 0} (calls : NetworkCalls N L S W) {T : Type 0} (listene
     Away = IsTurnedAway modelled life origin
 
     abbrev Is : Pass → S → W → Type 0
-    Is = IsAttended modelled life origin remaining contents settings
+    Is = IsReceived modelled life origin remaining contents settings
 
     of_listener : (first : T) → ServesAll Away Is Lets first → left first ≡ most options.count → idle first ≡ options.idle → stops first ≡ options.ends_when_failed → ServesStreams calls modelled life origin remaining contents settings options (listener first)
     of_listener first all its_count its_idle its_stop =

@@ -16,29 +16,11 @@ use Rattle.drda_disk.specs.declared.disk.Disk.{Ghosts}
 use Rattle.session_commands.proofs.settings.Settings.TheSendSync as settings_sends
 use Rattle.shared_node.proofs.Sending.{shared_sync}
 use Rattle.shared_node.specs.declared.origin.Origin as origin
-use Rattle.drda_server.proofs.longest.Longest.TheSendSync as longest_sends
+use Rattle.drda_guests.proofs.longest.Longest.TheSendSync as longest_sends
+use Rattle.drda_guests.proofs.Sending.{doors_sync}
 use Rattle.drda_server.specs.contracts.attending.Hall as hall
-use Rattle.drda_server.specs.contracts.doors.Door as door
-use Rattle.drda_server.specs.contracts.doors.House as house
-use Rattle.drda_server.specs.contracts.doors.Doors as doors
-use Rattle.std.proofs.time.Instant.TheSendSync as instant_sends
-use Rattle.drda_server.proofs.fullness.Fullness.TheSendSync as fullness_sends
-use Rattle.drda_server.proofs.failure.Failure.TheSendSync as failure_sends
-
--- a stream's handle may go to another thread, so what can be ended from there may be shared
-door_send : (K : RattleType) → IsSend K → IsSend (door.the_row K)
-door_send K s =
-    declared_send (door.the_type K) (search (option_sends.the_send, s), (search sendable, (search (option_sends.the_send, instant_sends.the_send), (search sendable, (search sendable, tt)))))
-
-house_send : (K : RattleType) → IsSend K → IsSend (house.the_row K)
-house_send K s =
-    let d = door_send K s in
-    declared_send (house.the_type K) (Vec-send (option.the_row (door.the_row K)) (search (option_sends.the_send, d)), (search sendable, (search (sendable, option_sends.the_send), tt)))
-
-doors_sync : (K : RattleType) → IsSend K → IsSync (doors.the_row K)
-doors_sync K s =
-    let h = house_send K s in
-    declared_sync (doors.the_type K) (search (sendable, crosses, h) depth 12, tt)
+use Rattle.drda_guests.proofs.fullness.Fullness.TheSendSync as fullness_sends
+use Rattle.drda_guests.proofs.failure.Failure.TheSendSync as failure_sends
 
 pub hall_sync : (l : NamedLft) (D B R G L K : RattleType) (d : Ghosts D.Denot) (o : origin.Ghosts B.Denot D.Denot) → IsSend D → IsSync R → IsSync G → IsSync L → IsSend K → IsSync (hall.the_row l D B R G L K d o)
 hall_sync l D B R G L K d o sends runtime gate log handles =

@@ -9,7 +9,7 @@ use Rattle.recovery.specs.Journaled.{OnDisk}
 use Rattle.session_commands.specs.Settings.{Settings}
 use Rattle.command_line.specs.declared.job.ServeOptions.{ServeOptions}
 use Rattle.drda_server.specs.Network.{ClosesAtOnce, FailsToLetIn, IsLocal, LetsIn, NetworkCalls}
-use Rattle.drda_server.specs.Threads.{Became, Given, IsAttended, IsTurnedAway}
+use Rattle.drda_server.specs.Threads.{Became, Given, IsReceived, IsTurnedAway}
 use Rattle.store_files.specs.Stores.{IsOfDevice}
 use Rattle.store_files.specs.declared.fault.Fault.{Fault}
 use Rattle.store_files.specs.declared.fault.Fault.TheVariants.{Device}
@@ -54,7 +54,7 @@ module _ {N L S W : Type 0} (calls : NetworkCalls N L S W) where
     pub record ServesStreams (listener : L) : Type 0 where
       pub streams : List (Given S W)
       pub let_in : AllByRecursion (IsLetIn listener options.idle) streams
-      pub each : AllByRecursion (Became (IsTurnedAway modelled life origin) (IsAttended modelled life origin remaining contents settings)) streams
+      pub each : AllByRecursion (Became (IsTurnedAway modelled life origin) (IsReceived modelled life origin remaining contents settings)) streams
       pub closed : List S
       pub closes : AllByRecursion (ClosesAtOnce calls listener options.idle) closed
       pub count : (length streams + length closed ≡ most options.count) ⊎ ((length streams + length closed ≤ most options.count) × MayStop options.ends_when_failed listener)

@@ -2,11 +2,14 @@
 use Rattle.std.specs.Prelude.{◌≡◌, ℕ, Bool, List, [], ◌∷◌, Option, Some, None, IfSome}
 use Rattle.std.specs.List.{AllByRecursion}
 use Rattle.drda_disk.specs.Disk.{Life}
+use Rattle.counted_streams.specs.Counts.{counts, sink_of}
+use Rattle.counted_streams.specs.Faults.{uncounted}
+use Rattle.stream_service.specs.Serving.{TellsFaults}
 use Rattle.session_commands.specs.Settings.{Settings}
 use Rattle.recovery.specs.Journaled.{OnDisk}
 use Rattle.core_history.specs.declared.pass.Pass.{Pass}
 use Rattle.shared_node.specs.Desks.{DeskAsks}
-use Rattle.shared_node.specs.Locked.{GivesNone, Retires, UnderLock}
+use Rattle.shared_node.specs.Locked.{GivesLeave, GivesNone, Retires, UnderLock}
 use Rattle.shared_node.specs.Served.{IsLost, IsServed}
 use Rattle.drda_server.specs.declared.attended.Attended.{Attended}
 
@@ -15,13 +18,20 @@ use Rattle.drda_server.specs.declared.attended.Attended.{Attended}
 module _ {D : Type 0} (modelled : Bool) (life : D → Life) (origin : OnDisk D → Type 0) {I O : Type 0} (remaining : I → Option (List ℕ)) (contents : O → Option (List ℕ)) (settings : Settings) (pass : Pass) (reader : I) (writer : O) where
   -- A stream was served from its first byte to its loss, by a front of these settings, at its own pass, of which nobody asked
   -- anything else; then the pass was given back. Or there was no memory for the conversation, and nothing was heard.
-  pub record Attends (attended : Attended O) : Type 0 where
-    pub served : IfSome (remaining reader) (λ input. IsServed (DeskAsks modelled life origin) settings pass input (contents writer) attended.served (contents attended.writer.value) attended.pass.value)
+  pub record Attends (attended : Attended I O) : Type 0 where
+    pub served : IfSome (remaining reader) (λ input. IsServed (DeskAsks modelled life origin) settings pass input (contents writer) attended.served (contents (sink_of attended.writer.value)) attended.pass.value)
     pub lost : IsLost (DeskAsks modelled life origin) pass attended.served attended.pass.value
     pub retired : UnderLock modelled life origin (Retires attended.pass.value attended.is_retired)
+    -- what is told of its end has a cause in what has failed of its stream
+    pub cause : TellsFaults attended.served uncounted (counts attended.reader.value attended.writer.value)
 
   abbrev pub IsAttended : Type 0
-  IsAttended = (attended : Attended O) × Attends attended
+  IsAttended = (attended : Attended I O) × Attends attended
+
+  -- leave was given for this conversation, at this pass, of which nothing was asked before; and it was attended
+  pub record IsReceived : Type 0 where
+    pub leave : UnderLock modelled life origin (GivesLeave pass)
+    pub attended : IsAttended
 
 -- a stream was turned away: 64 conversations had leave then, or no number was left
 abbrev pub IsTurnedAway : {D : Type 0} → Bool → (D → Life) → (OnDisk D → Type 0) → Type 0

@@ -40,7 +40,7 @@ impl<D, B, I, O> Attendance<D, B, I, O> {
     }
 }
 
-impl<D: Disk, B: Origin<D>, I: Read, O: Write> Promise<Attended<O>> for Attendance<D, B, I, O> {
+impl<D: Disk, B: Origin<D>, I: Read, O: Write> Promise<Attended<I, O>> for Attendance<D, B, I, O> {
     ghost use Rattle.drda_server.specs.Threads.{Attends};
 
     ghost kept_by = { λ p attended. Attends D.is_modelled D.life B.is I.remaining O.contents p.settings.value p.pass.value p.reader.value p.writer.value attended };

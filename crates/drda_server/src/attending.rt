@@ -5,16 +5,12 @@ ghost use Rattle.shared_node.specs.Locked.{Retires, UnderLock};
 ghost use Rattle.drda_server.specs.Threads.{Attends};
 
 use crate::attended::Attended;
-use crate::doors::Doors;
-use crate::failure::Failure;
-use crate::fullness::Fullness;
-use crate::guest::{Guest, unseen};
-use crate::log::Log;
-use crate::longest::Longest;
-use crate::notice::{Notice, Outcome};
-use crate::telling::TellingGate;
 use conversation::Settings;
+use counted_streams::{Reader, Writer};
 use drda_disk::Disk;
+use drda_guests::{
+    Doors, Failure, Fullness, Guest, Log, Longest, Notice, Outcome, TellingGate, unseen,
+};
 use shared_node::{Desk, Gate, Origin, Pass, Shared};
 use std::alloc::Global;
 use std::io::{Read, Write};
@@ -58,7 +54,7 @@ pub(crate) fn attend<
     peer: Option<SocketAddr>,
     reader: I,
     writer: O,
-) -> Attended<O>
+) -> Attended<I, O>
     ensures { Attends D.is_modelled D.life B.is I.remaining O.contents hall.now.settings.now pass reader writer result }
 {
     let conversation = pass.conversation();
@@ -82,8 +78,8 @@ pub(crate) fn attend<
         cursor_bytes: hall.cursor_bytes,
         seen: unseen(),
     };
-    let mut reader = reader;
-    let mut writer = writer;
+    let mut reader = Reader::new(reader);
+    let mut writer = Writer::new(writer);
     let ended = Desk::new(hall.rt, hall.shared, &gate, pass).serve(
         hall.alloc,
         hall.settings,
@@ -105,18 +101,19 @@ pub(crate) fn attend<
         peer,
         outcome,
     });
-    let writer = Snapshot::of(&writer);
-    retire(hall, ended.served, ended.pass, writer)
+    let (reader, writer) = (Snapshot::of(&reader), Snapshot::of(&writer));
+    retire(hall, ended.served, ended.pass, reader, writer)
 }
 
 // Gives the pass of a conversation that was lost back.
-fn retire<D: Disk, B: Origin<D>, R: Wait + Clock, G: Gate, L: Log, O>(
+fn retire<D: Disk, B: Origin<D>, R: Wait + Clock, G: Gate, L: Log, I, O>(
     hall: &Hall<'_, D, B, R, G, L, O>,
     served: Served,
     pass: Pass,
-    writer: Snapshot<O>,
-) -> Attended<O>
-    ensures kept { (result.served ≡ served) × (result.pass.value ≡ pass) × (result.writer ≡ writer) }
+    reader: Snapshot<Reader<I>>,
+    writer: Snapshot<Writer<O>>,
+) -> Attended<I, O>
+    ensures kept { (result.served ≡ served) × (result.pass.value ≡ pass) × (result.reader ≡ reader) × (result.writer ≡ writer) }
     ensures retired { UnderLock D.is_modelled D.life B.is (Retires pass result.is_retired) }
 {
     let shown = Snapshot::of(&pass);
@@ -125,6 +122,7 @@ fn retire<D: Disk, B: Origin<D>, R: Wait + Clock, G: Gate, L: Log, O>(
         served,
         is_retired,
         pass: shown,
+        reader,
         writer,
     }
 }

@@ -15,7 +15,7 @@ use std::thread::{PromisedHandle, Threads};
 pub(crate) const PLACES: usize = 64;
 
 /// The thread that attends to a conversation.
-pub(crate) type Attendant<D, B, I, O> = PromisedHandle<Attended<O>, Attendance<D, B, I, O>>;
+pub(crate) type Attendant<D, B, I, O> = PromisedHandle<Attended<I, O>, Attendance<D, B, I, O>>;
 
 /// A place for the thread of each conversation.
 pub(crate) fn no_threads<D: Disk, B: Origin<D>, I: Read + Drop, O: Write + Drop>(

@@ -4,8 +4,8 @@ ghost use Rattle.std.specs.Prelude.{◌≡◌, IfErr, IfOk, IfSome, None, Ok};
 ghost use Rattle.drda_server.specs.Network.{ClosesAtOnce, FailsToLetIn, IsLimited, IsNotLimited, LetsIn};
 
 use crate::arrivals::Streams;
-use crate::failure::Failure;
 use crate::network::Network;
+use drda_guests::Failure;
 use std::io::{self, ErrorKind};
 use std::net::SocketAddr;
 

@@ -5,26 +5,19 @@ mod arrivals;
 mod attendance;
 mod attended;
 mod attending;
-mod doors;
-mod failure;
-mod fullness;
-mod guest;
 mod handles;
 mod letting_in;
 mod listening;
-mod log;
-mod longest;
 mod network;
-mod notice;
-mod telling;
 mod threads;
 
 pub use arrivals::Streams;
-pub use failure::Failure;
+// Who is told, and what a failure ends.
+pub use drda_guests::{ErrorLog, Failure, Log, Name, Notice, Outcome, Part, Silent};
 pub use listening::serve_file;
-pub use log::{ErrorLog, Log, Silent};
 pub use network::{Network, SystemNetwork};
-pub use notice::{Name, Notice, Outcome};
+// How full a store is, and what has no room in it.
+pub use shared_node::{Gauge, Lack};
 // What ended a conversation.
 pub use stream_service::Served;
 pub use threads::{Rules, serve_streams};

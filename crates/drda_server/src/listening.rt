@@ -7,16 +7,14 @@ ghost use Rattle.drda_server.specs.Listening.{Listens, ServesStreams, port_line}
 ghost use Rattle.drda_server.specs.Serving.{EndsSo, ServesCore, ServesFile, seen, settings_of, surroundings};
 ghost use Rattle.store_files.specs.Stores.{IsOfDevice, RefusesName};
 
-use crate::failure::Failure;
 use crate::letting_in::LetIn;
-use crate::log::{Log, Switched};
 use crate::network::Network;
-use crate::notice::{Name, Notice};
 use crate::threads::{Rules, serve_streams};
 use command_line::{Login, ServeOptions};
 use conversation::{Settings, SettingsError};
 use core_history::lasting::kept_books_last;
 use drda_disk::Disk;
+use drda_guests::{Failure, Log, Name, Notice, Switched};
 use durable_core::DurableCore;
 use shared_node::{OpenGate, Origin, Shared};
 use std::alloc::Global;

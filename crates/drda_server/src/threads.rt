@@ -2,21 +2,16 @@
 
 ghost use denote.Param.Send.{IsSend, IsSync};
 ghost use Rattle.std.specs.Prelude.{◌≡◌, ◌<◌, IfOk, IfSome, None};
-ghost use Rattle.drda_server.specs.Threads.{IsAttended, IsTurnedAway, ServesAll};
+ghost use Rattle.shared_node.specs.Locked.{GivesLeave, UnderLock};
+ghost use Rattle.drda_server.specs.Threads.{IsReceived, IsTurnedAway, ServesAll};
 
 use crate::arrivals::Streams;
 use crate::attendance::Attendance;
 use crate::attending::{Hall, attend};
-use crate::doors::Doors;
-use crate::failure::Failure;
-use crate::fullness::Fullness;
 use crate::handles::{PLACES, join_all, join_at, no_threads, put_at};
-use crate::log::Log;
-use crate::longest::Longest;
-use crate::notice::Notice;
-use crate::telling::tell_turn;
 use conversation::Settings;
 use drda_disk::Disk;
+use drda_guests::{Doors, Failure, Fullness, Log, Longest, Notice, tell_turn};
 use shared_node::{Gate, Origin, Pass, Shared};
 use std::alloc::{AllocError, Global};
 use std::net::{OpenStream, SocketAddr};
@@ -40,9 +35,9 @@ fn welcome<D: Disk, B: Origin<D>, R: Wait + Clock, G: Gate, L: Log, K: OpenStrea
     handle: Option<K>,
 ) -> Option<Pass>
     ensures some { IfSome result (λ pass. pass.place < 64) }
+    ensures given { IfSome result (λ pass. UnderLock D.is_modelled D.life B.is (GivesLeave pass)) }
     ensures none { result ≡ None → IsTurnedAway D.is_modelled D.life B.is }
 {
-    end_late(hall);
     let Some(pass) = admit(hall) else {
         hall.log.tell(Notice::TurnedAway { peer });
         return None;
@@ -54,23 +49,12 @@ fn welcome<D: Disk, B: Origin<D>, R: Wait + Clock, G: Gate, L: Log, K: OpenStrea
     Some(pass)
 }
 
-// Ends the streams of those that have not opened the database in the time that they have.
-fn end_late<D: Disk, B: Origin<D>, R: Wait + Clock, G: Gate, L: Log, K: OpenStream + Drop>(
-    hall: &Hall<'_, D, B, R, G, L, K>,
-) {
-    for _ in 0..PLACES {
-        match hall.doors.end_late(hall.rt) {
-            Some(conversation) => hall.log.tell(Notice::Late { conversation }),
-            None => return,
-        }
-    }
-}
-
 // Leave for one conversation more; where there is none, perhaps in the place of another one.
 fn admit<D: Disk, B: Origin<D>, R: Wait + Clock, G: Gate, L: Log, K: OpenStream + Drop>(
     hall: &Hall<'_, D, B, R, G, L, K>,
 ) -> Option<Pass>
     ensures some { IfSome result (λ pass. pass.place < 64) }
+    ensures given { IfSome result (λ pass. UnderLock D.is_modelled D.life B.is (GivesLeave pass)) }
     ensures none { result ≡ None → IsTurnedAway D.is_modelled D.life B.is }
 {
     match hall.shared.admit(hall.rt) {
@@ -83,7 +67,8 @@ fn admit<D: Disk, B: Origin<D>, R: Wait + Clock, G: Gate, L: Log, K: OpenStream 
 fn admit_for_another<D: Disk, B: Origin<D>, R: Wait + Clock, G: Gate, L: Log, K: OpenStream + Drop>(
     hall: &Hall<'_, D, B, R, G, L, K>,
 ) -> Option<Pass>
-    ensures { IfSome result (λ pass. pass.place < 64) }
+    ensures some { IfSome result (λ pass. pass.place < 64) }
+    ensures given { IfSome result (λ pass. UnderLock D.is_modelled D.life B.is (GivesLeave pass)) }
 {
     let conversation = hall.doors.oust(hall.rt)?;
     hall.log.tell(Notice::Ousted { conversation });
@@ -133,10 +118,10 @@ where
     S: Streams,
     S::Reader: Send,
     S::Writer: Send,
-    ensures { IfOk result (λ _. ServesAll (IsTurnedAway D.is_modelled D.life B.is) (IsAttended D.is_modelled D.life B.is S.Reader.remaining S.Writer.contents settings.now) S.gives streams.old) }
+    ensures { IfOk result (λ _. ServesAll (IsTurnedAway D.is_modelled D.life B.is) (IsReceived D.is_modelled D.life B.is S.Reader.remaining S.Writer.contents settings.now) S.gives streams.old) }
 {
     let (waits, holds, fullness) = (Longest::new(), Longest::new(), Fullness::new());
-    let doors = Doors::new(alloc, rules.login, rules.idle)?;
+    let doors = Doors::new(alloc, PLACES, rules.login, rules.idle)?;
     let hall = Hall {
         rt,
         alloc,
@@ -159,7 +144,7 @@ fn begin<D: Disk, B: Origin<D>, R: Wait + Clock, G: Gate, L: Log, K: OpenStream 
     hall: &Hall<'_, D, B, R, G, L, K>,
 ) {
     let turn = hall.shared.consider_checkpoint(hall.rt);
-    tell_turn(hall.log, &turn);
+    tell_turn(hall.log, hall.fullness, &turn);
     if turn.has_failed {
         hall.failure.note();
     }
@@ -191,14 +176,14 @@ where
     S: Streams,
     S::Reader: Send,
     S::Writer: Send,
-    ensures { IfOk result (λ _. ServesAll (IsTurnedAway D.is_modelled D.life B.is) (IsAttended D.is_modelled D.life B.is S.Reader.remaining S.Writer.contents hall.now.settings.now) S.gives streams.old) }
+    ensures { IfOk result (λ _. ServesAll (IsTurnedAway D.is_modelled D.life B.is) (IsReceived D.is_modelled D.life B.is S.Reader.remaining S.Writer.contents hall.now.settings.now) S.gives streams.old) }
 {
     thread::scope(
         thread::scope_env(),
         rt,
         move |scope| -> Result<(), AllocError>
             requires { IsSync R.row × IsSync G.row × IsSync L.row × IsSend D.row × IsSend S.Reader.row × IsSend S.Writer.row }
-            ensures { IfOk result (λ _. ServesAll (IsTurnedAway D.is_modelled D.life B.is) (IsAttended D.is_modelled D.life B.is S.Reader.remaining S.Writer.contents hall.entry.now.settings.now) S.gives streams.entry.now) }
+            ensures { IfOk result (λ _. ServesAll (IsTurnedAway D.is_modelled D.life B.is) (IsReceived D.is_modelled D.life B.is S.Reader.remaining S.Writer.contents hall.entry.now.settings.now) S.gives streams.entry.now) }
         {
             let mut threads = no_threads(hall.alloc)?;
             begin(hall);

@@ -1,7 +1,7 @@
 //! `drdad`: a DRDA application server.
 #![tactic(auto)]
 
-use drda_program::{ErrorLog, Fault, SystemFiles, SystemNetwork, run_words};
+use drda_program::{ErrorLog, Fault, Reader, SystemFiles, SystemNetwork, Writer, run_words};
 use std::io::BufReader;
 use std::process::ExitCode;
 
@@ -14,7 +14,7 @@ fn main(rt: HostRuntime) -> ExitCode {
     let Ok(words) = words(&rt) else {
         return without_memory(&rt);
     };
-    let Ok(mut reader) = BufReader::with_capacity(alloc, STREAM_BUFFER, rt.stdin()) else {
+    let Ok(reader) = BufReader::with_capacity(alloc, STREAM_BUFFER, rt.stdin()) else {
         return without_memory(&rt);
     };
     ExitCode::from(run_words(
@@ -24,8 +24,8 @@ fn main(rt: HostRuntime) -> ExitCode {
         &mut SystemFiles::new(alloc, &rt),
         &mut SystemNetwork::new(alloc, &rt),
         &ErrorLog::new(&rt),
-        &mut reader,
-        &mut rt.stdout(),
+        &mut Reader::new(reader),
+        &mut Writer::new(rt.stdout()),
         &mut rt.stderr(),
     ))
 }

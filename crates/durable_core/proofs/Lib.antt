@@ -4,7 +4,6 @@ pub mod Looking
 pub mod Copying
 pub mod Paged
 pub mod HeuristicSteps
-pub mod Gathering
 pub mod Doubted
 pub mod Heads
 pub mod Opened
@@ -15,4 +14,5 @@ pub mod LeftInDoubt
 pub mod Telling
 pub mod Switching
 pub mod Laid
-pub mod Phasing
+pub mod Grouping
+pub mod Gauged

@@ -43,19 +43,7 @@ pub enum Checkpointed {
     Closed,
 }
 
-/// A checkpoint is due where less than one part in so many of the journal is left for records.
-const PARTS_LEFT: usize = 4;
-
 impl<D: Disk> DurableCore<D> {
-    /// Whether a checkpoint is worth its writes: less than a quarter of the journal is left for records,
-    /// and the device has not failed. Makes no device call.
-    pub fn is_checkpoint_due(&self) -> bool
-        ensures { self.now.is_failed ≡ true → result ≡ false }
-    {
-        let recorder = self.core.recorder();
-        !recorder.is_failed() && recorder.room() < recorder.region().length / PARTS_LEFT
-    }
-
     /// Writes a checkpoint: the committed tables, the rows of their pages with the changes since, go into the
     /// half of the store that is not active, and behind them a record of each branch in doubt; then that half
     /// is the active one, and its journal has the room that they leave. From then on rows are read from its

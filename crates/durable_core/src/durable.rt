@@ -3,7 +3,7 @@
 ghost use Rattle.std.specs.Prelude.{◌≡◌, IfOk, IsTrue, false, string_bytes};
 ghost use Rattle.core_calls.specs.Answer.{answer_of};
 ghost use Rattle.core_calls.specs.Call.{call_of};
-ghost use Rattle.unit_records.specs.Phases.{is_ready};
+ghost use Rattle.unit_records.specs.Together.{is_ready};
 ghost use Rattle.xa_manager.specs.Branch.{in_doubt_xids};
 ghost use Rattle.rdb_core.specs.InDoubt.{branches_left, in_doubt_branches, xids_left};
 ghost use Rattle.recovery.specs.Journaled.{IsDurable, Journaled, shown_on};
@@ -19,8 +19,7 @@ use recovery::images::{calls_make_records, records_stay};
 use recovery::laws::doubts_hold_their_decisions;
 use recovery::step_laws::steps_are_recorded;
 use std::marker::Model;
-use unit_records::Phase;
-use xa_calls::Xid;
+use unit_records::GroupCall;
 
 /// The committed tables, the units of work and the XA branches of a store on a disk. The rows of the tables
 /// are on pages of the disk, with the changes since the last checkpoint in memory; what a statement asks for is
@@ -118,12 +117,12 @@ impl<D: Disk> DurableCore<D> {
         self.core.recorder().is_failed()
     }
 
-    /// Whether a branch stands so that a call for this phase of two-phase commit is answered XA_OK and has a
-    /// record. Takes no memory.
-    pub fn is_ready(&self, phase: Phase, xid: &Xid) -> bool
-        ensures { result ≡ is_ready phase self.now.state xid.now }
+    /// Whether this call would be done alone, with a record, where fewer than 256 branches are in doubt. Takes no
+    /// memory.
+    pub fn is_ready(&self, call: &GroupCall) -> bool
+        ensures { result ≡ is_ready self.now.state call.now }
     {
-        self.core.is_ready(phase, xid)
+        self.core.is_ready(call)
     }
 
     /// The XIDs in doubt, each with its state, by rising bytes. Takes no memory.

@@ -1,10 +1,10 @@
 //! What is asked of an open store that no call of a conversation asks, and how it is told.
 
 use crate::bench::Core;
-use durable_core::{Checkpointed, Decided, OpenError, Together};
+use durable_core::{Checkpointed, Decided, OpenError, PlainError, Together};
 use std::alloc::{AllocError, Global};
 use test_calls::{push_bytes, push_text, xid_of};
-use unit_records::{BranchCall, Phase};
+use unit_records::{Asked, GroupCall, Phase};
 use xa_manager::{BranchState, Decision};
 
 /// Why a disk was not opened, and its size when it is handed back.
@@ -61,26 +61,29 @@ fn phase_named(word: &str) -> Option<Phase> {
     }
 }
 
-// The conversations of these numbers commit together.
-fn commit(alloc: Global, core: &mut Core, numbers: &str) -> Option<Together> {
-    let mut conversations = Vec::new(alloc);
-    for number in numbers.split_ascii_whitespace() {
-        conversations.push(number.parse::<u64>().ok()?).ok()?;
-    }
-    Some(core.commit_together(&conversations))
+// A call of a group: that the conversation of this number commits, or a phase and the number of a branch behind =, for which the conversation
+// of that number asks.
+fn group_call(alloc: Global, word: &str) -> Option<GroupCall> {
+    let Some((name, number)) = word.split_once('=') else {
+        return Some(GroupCall {
+            conversation: word.parse::<u64>().ok()?,
+            asked: Asked::Commit,
+        });
+    };
+    let branch = word.strip_prefix(name)?;
+    Some(GroupCall {
+        conversation: number.parse::<u64>().ok()?,
+        asked: Asked::Through(phase_named(name)?, xid_of(alloc, branch)?),
+    })
 }
 
-// A phase, and branches that go through it together. A conversation asks for the branch of its own number, which is spelled behind =.
-fn go_through(alloc: Global, core: &mut Core, rest: &str) -> Option<Together> {
-    let (phase, words) = rest.split_once(' ')?;
-    let phase = phase_named(phase)?;
+// These calls are made together.
+fn make_together(alloc: Global, core: &mut Core, words: &str) -> Option<Together> {
     let mut calls = Vec::new(alloc);
     for word in words.split_ascii_whitespace() {
-        let conversation = word.strip_prefix('=')?.parse::<u64>().ok()?;
-        let xid = xid_of(alloc, word)?;
-        calls.push(BranchCall { conversation, xid }).ok()?;
+        calls.push(group_call(alloc, word)?).ok()?;
     }
-    Some(core.go_through(phase, &calls))
+    Some(core.make_together(&calls))
 }
 
 // The branch of an XID is decided heuristically, to `commit` or to `rollback`.
@@ -119,9 +122,35 @@ fn tell_in_doubt(alloc: Global, core: &Core, out: &mut Vec<u8>) -> Option<()> {
     Some(())
 }
 
-/// `together` commits the conversations of these numbers together, `through PHASE =N ..` prepares or decides the branches of these numbers, each
-/// asked for by the conversation of its number, `decide XID commit` or `rollback` decides a branch heuristically, `checkpoint` makes a checkpoint,
-/// `room` tells the store's name and the room of its journal, `layout` the layout of its active half, and `in_doubt` which branches are in doubt.
+// The same, each with the state that it is lent with.
+fn tell_branches(alloc: Global, core: &Core, out: &mut Vec<u8>) -> Option<()> {
+    push_text(out, "branches")?;
+    let mut branches = core.in_doubt();
+    for _ in 0..usize::MAX {
+        let Some(branch) = branches.next_branch() else {
+            break;
+        };
+        push_text(out, " ")?;
+        push_bytes(alloc, out, branch.xid.global())?;
+        push_text(out, outcome_of(Some(branch.state)))?;
+    }
+    Some(())
+}
+
+// Whether the state was copied.
+fn told_copy(core: &mut Core) -> &'static str {
+    match core.plain() {
+        Ok(_) => "copied",
+        Err(PlainError::NoMemory) => "no memory",
+        Err(PlainError::DeviceFailed) => "the device failed",
+        Err(PlainError::Closed) => "closed",
+    }
+}
+
+/// `together` makes calls together: each is C, the commit of the conversation C, or PHASE=N, by which the conversation N asks for a phase of the
+/// branch =N. `decide XID commit` or `rollback` decides a branch heuristically, `checkpoint` makes a checkpoint, `room` tells the store's name and
+/// the room of its journal, `layout` the layout of its active half, `in_doubt` and `branches` which branches are in doubt, and `copy` copies
+/// the state.
 pub fn tell(
     alloc: Global,
     core: &mut Core,
@@ -130,8 +159,7 @@ pub fn tell(
     out: &mut Vec<u8>,
 ) -> Option<()> {
     match verb {
-        "together" => push_text(out, told_together(commit(alloc, core, rest)?)),
-        "through" => push_text(out, told_together(go_through(alloc, core, rest)?)),
+        "together" => push_text(out, told_together(make_together(alloc, core, rest)?)),
         "decide" => push_text(out, told_decided(decide(alloc, core, rest)?)),
         "checkpoint" => push_text(out, &told_checkpoint(alloc, core.checkpoint()).ok()?),
         "room" => {
@@ -143,6 +171,8 @@ pub fn tell(
             push_text(out, if is_old { "layout 1" } else { "layout 2" })
         }
         "in_doubt" => tell_in_doubt(alloc, core, out),
+        "branches" => tell_branches(alloc, core, out),
+        "copy" => push_text(out, told_copy(core)),
         _ => None,
     }
 }

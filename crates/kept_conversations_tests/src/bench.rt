@@ -1,5 +1,6 @@
 //! A store in memory, and nodes over it one after the other.
 
+use counted_streams::{Reader, Writer};
 use drda_disk::MemDisk;
 use drda_node::{RunEnd, run};
 use half_store::format;
@@ -83,8 +84,10 @@ impl Bench {
     fn answer(&mut self) -> Option<()> {
         let disk = self.disk.take()?;
         let mut node = node_over(self.alloc, disk)?;
-        let mut reader = self.sent.as_slice();
-        let end = run(self.alloc, &mut node, &mut reader, &mut self.written);
+        let mut reader = Reader::new(self.sent.as_slice());
+        let mut writer = Writer::new(Vec::new(self.alloc));
+        let end = run(self.alloc, &mut node, &mut reader, &mut writer);
+        self.written.extend_from_slice(&writer.into_inner()).ok()?;
         self.sent.clear();
         self.disk = Some(node.into_core().into_disk());
         match end {

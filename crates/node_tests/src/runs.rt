@@ -2,6 +2,7 @@
 
 use crate::records::tell_records;
 use crate::spoiled::SpoiledDisk;
+use counted_streams::{Reader, Writer};
 use drda_disk::{FuseDisk, MemDisk};
 use drda_node::{ConversationId, Node, RunEnd, run};
 use std::alloc::Global;
@@ -10,17 +11,19 @@ use std::io::{self, BufReader, ErrorKind, Read, Write};
 /// A node over a disk that may fail, or give back another byte than was written.
 pub type Bench = Node<SpoiledDisk<FuseDisk<MemDisk>>>;
 
-/// A stream that gives so many bytes at a time, and may fail behind them.
+/// A stream that gives so many bytes at a time, and may fail behind them; and how often it failed.
 #[derive(Drop)]
 struct Pieces<'a> {
     bytes: &'a [u8],
     size: usize,
     fails: bool,
+    faults: u32,
 }
 
 impl Read for Pieces<'_> {
     fn read(&mut self, buffer: &mut [u8]) -> io::Result<usize> {
         if self.fails && self.bytes.is_empty() {
+            self.faults = self.faults.saturating_add(1);
             return Err(io::Error::from(ErrorKind::Other));
         }
         let size = buffer.len().min(self.size);
@@ -28,11 +31,12 @@ impl Read for Pieces<'_> {
     }
 }
 
-/// A stream that takes so many bytes at a time and fails behind so many; and how often it was written to.
+/// A stream that takes so many bytes at a time and fails behind so many; how often it was written to, and how often it failed.
 #[derive(Drop)]
 struct Taking {
     taken: Vec<u8>,
     times: usize,
+    faults: u32,
     size: usize,
     room: usize,
 }
@@ -40,6 +44,7 @@ struct Taking {
 impl Write for Taking {
     fn write(&mut self, bytes: &[u8]) -> io::Result<usize> {
         if self.taken.len() >= self.room {
+            self.faults = self.faults.saturating_add(1);
             return Err(io::Error::from(ErrorKind::Other));
         }
         let count = bytes.len().min(self.size);
@@ -53,7 +58,7 @@ impl Write for Taking {
     }
 }
 
-// How a node ends over these events: where they lie ready; by `slow` and `fails` they come byte by byte, and by `pieces` in pieces of this
+// How a node ends over these events, and how often reading failed: where they lie ready; by `slow` and `fails` they come byte by byte, and by `pieces` in pieces of this
 // size; by `fails` the stream fails behind them.
 fn end_of(
     alloc: Global,
@@ -61,27 +66,29 @@ fn end_of(
     how: &str,
     size: usize,
     events: &[u8],
-    writer: &mut Taking,
-) -> RunEnd {
+    writer: &mut Writer<Taking>,
+) -> (RunEnd, u32) {
     let size = match how {
         "pieces" => size,
         "slow" | "fails" => 1,
         _ => {
-            let mut reader = events;
-            return run(alloc, node, &mut reader, writer);
+            let mut reader = Reader::new(events);
+            return (run(alloc, node, &mut reader, writer), 0);
         }
     };
     let pieces = Pieces {
         bytes: events,
         size,
         fails: how == "fails",
+        faults: 0,
     };
     match BufReader::with_capacity(alloc, 64, pieces) {
         Ok(reader) => {
-            let mut reader = reader;
-            run(alloc, node, &mut reader, writer)
+            let mut reader = Reader::new(reader);
+            let end = run(alloc, node, &mut reader, writer);
+            (end, reader.into_inner().into_inner().faults)
         }
-        Err(_) => RunEnd::NoMemory,
+        Err(_) => (RunEnd::NoMemory, 0),
     }
 }
 
@@ -104,19 +111,23 @@ pub fn tell_run(
     } else {
         (usize::MAX, usize::MAX)
     };
-    let mut writer = Taking {
+    let mut writer = Writer::new(Taking {
         taken: Vec::new(alloc),
         times: 0,
+        faults: 0,
         size: most,
         room,
-    };
-    let end = end_of(alloc, node, how, size, events, &mut writer);
-    tell_end(end, &writer, told)
+    });
+    let (end, faults) = end_of(alloc, node, how, size, events, &mut writer);
+    tell_end(end, faults, &writer.into_inner(), told)
 }
 
-fn tell_end(end: RunEnd, writer: &Taking, told: &mut String) -> Option<()> {
-    let (count, times) = (writer.taken.len(), writer.times);
+fn tell_end(end: RunEnd, reads: u32, writer: &Taking, told: &mut String) -> Option<()> {
+    let (count, times, writes) = (writer.taken.len(), writer.times, writer.faults);
     writeln!(told, "  {end:?}, {count} bytes in {times} writes").ok()?;
+    if reads > 0 || writes > 0 {
+        writeln!(told, "  failed: reads {reads}, writes {writes}").ok()?;
+    }
     tell_records(&writer.taken, told)
 }
 

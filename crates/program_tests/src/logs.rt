@@ -1,7 +1,7 @@
 //! A log that is kept.
 
 use crate::networks::address;
-use drda_program::{Log, Name, Notice, Outcome, Served};
+use drda_program::{Gauge, Lack, Log, Name, Notice, Outcome, Part, Served};
 use std::alloc::Global;
 use std::fmt::Write;
 use std::net::SocketAddr;
@@ -71,8 +71,16 @@ fn timeless(notice: Notice) -> Option<Notice> {
     }
 }
 
+const GAUGE: Gauge = Gauge {
+    room: 200,
+    records: 799,
+    journal: 1_000,
+    tables: 19_000,
+    half: 20_000,
+};
+
 // What a log may be told, each kind of it at least once.
-fn notices() -> [Notice; 18] {
+fn notices() -> [Notice; 21] {
     let peer = Some(address(51234));
     [
         Notice::Begins {
@@ -102,8 +110,19 @@ fn notices() -> [Notice; 18] {
             room: 2_048,
             doubts: 3,
         },
-        full(10, false),
-        full(11, true),
+        full(10, Lack::Journal),
+        full(11, Lack::Unit),
+        full(12, Lack::Half),
+        Notice::Level {
+            part: Part::Journal,
+            level: 80,
+            gauge: GAUGE,
+        },
+        Notice::Level {
+            part: Part::Half,
+            level: 95,
+            gauge: GAUGE,
+        },
         Notice::LongestWait {
             conversation: 3,
             micros: 1_000,
@@ -139,12 +158,12 @@ fn ends(peer: Option<SocketAddr>) -> Notice {
     }
 }
 
-fn full(conversation: u64, is_written: bool) -> Notice {
+fn full(conversation: u64, lack: Lack) -> Notice {
     Notice::Full {
         conversation,
         need: 900,
         room: 800,
-        is_written,
+        lack,
     }
 }
 

@@ -5,7 +5,7 @@ use crate::networks::Callers;
 use crate::shelves::Shelf;
 use crate::streams::{Input, Output};
 use crate::system::{Place, tell_sockets};
-use drda_program::{StoreFiles, SystemFiles, run_words};
+use drda_program::{Reader, StoreFiles, SystemFiles, Writer, run_words};
 use std::alloc::Global;
 use std::fs::File;
 use std::marker::{Send, Sync};
@@ -124,15 +124,15 @@ where
     let words = place.words(words)?;
     let mut net = Callers::new(scene.way, scene.input);
     let log = Kept::new(place.rt, place.alloc);
-    let mut reader = Input {
+    let mut reader = Reader::new(Input {
         bytes: scene.input,
         is_broken: scene.streams == "mute-in",
-    };
-    let mut out = Output {
+    });
+    let mut out = Writer::new(Output {
         taken: Vec::new(place.alloc),
         is_broken: scene.streams == "mute-out",
         is_unflushed: scene.streams == "unflushed",
-    };
+    });
     let mut err = Output {
         taken: Vec::new(place.alloc),
         is_broken: scene.streams == "mute-err",
@@ -153,7 +153,14 @@ where
         err.taken.clear();
     }
     let lines = log.into_lines();
-    match push_said(place.alloc, &out.taken, &lines, &net, &err.taken, said) {
+    match push_said(
+        place.alloc,
+        &out.into_inner().taken,
+        &lines,
+        &net,
+        &err.taken,
+        said,
+    ) {
         Some(()) => Some(status),
         None => None,
     }

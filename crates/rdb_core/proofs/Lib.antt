@@ -6,6 +6,5 @@ pub mod Looking
 pub mod Pages
 pub mod Questions
 pub mod Back
-pub mod Phases
 pub mod Standing
 mod Wanting

@@ -7,6 +7,7 @@ mod ending;
 mod engine;
 mod finding;
 mod in_doubt;
+mod making;
 mod opening;
 mod plain;
 mod plain_state;
@@ -16,7 +17,6 @@ mod refusing;
 mod reply;
 mod sight;
 mod step;
-mod through;
 mod together;
 mod wanted;
 

@@ -26,17 +26,17 @@ use Rattle.core_model.specs.Step.{CoreState, due_in, facts, unless_joined}
 use Rattle.unit_journal.specs.declared.kind.Kind.{Kind}
 use Rattle.unit_journal.specs.Record.{Entry}
 use Rattle.unit_records.specs.Due.{action_due, commit_due, record_due}
-use Rattle.unit_records.specs.Phases.{record_in, records_in}
 use Rattle.unit_records.specs.Records.{UnitRecord, committed, decided, forgotten, heuristic, prepared}
-use Rattle.unit_records.specs.Together.{all_changes}
-use Rattle.unit_records.specs.declared.phase.BranchCall.{BranchCall}
-use Rattle.unit_records.specs.declared.phase.Phase.{Phase}
+use Rattle.unit_records.specs.Together.{owner_in, record_for, records_of}
+use Rattle.unit_records.specs.declared.group_call.Asked.{Asked}
+use Rattle.unit_records.specs.declared.group_call.Asked.TheVariants.{Commit, Through}
+use Rattle.unit_records.specs.declared.group_call.GroupCall.{GroupCall}
 use Rattle.unit_records.specs.declared.phase.Phase.TheVariants.{Decide, Prepare}
 use Rattle.recovery.specs.Durable.{Doubt, Doubts, Durable, at_checkpoint, doubt_of, ended, have_places, is_claimed, is_free, next, waiting, with_doubt, without_doubt}
 use Rattle.recovery.specs.Journal.{Leads}
-use Rattle.recovery.specs.Known.{AreKnown, IsKnown, Releases, is_of}
+use Rattle.recovery.specs.Known.{AreKnown, IsKnown, is_of}
 use Rattle.recovery.specs.Part.{doubt_at, durable_part, outcome_at}
-use Rattle.recovery.specs.StepLaws.{CommitsAreKnown, DueAreKnown, PhasesAreKnown}
+use Rattle.recovery.specs.StepLaws.{DueAreKnown, GroupsAreKnown}
 use Rattle.recovery.proofs.Deciding.{doubted}
 use Rattle.recovery.proofs.DueRecords.{made, none_due, the_record}
 use Rattle.recovery.proofs.Holding.{ended_is, if_some}
@@ -163,20 +163,16 @@ waiting_in layout store es d known leads is = lead_waiting (at_checkpoint store)
 pub due_are_known : ActionsFit → DueAreKnown
 due_are_known fits layout store es s c k r known leads kept h = call_known layout s (waiting_in layout store es (durable_part s) known leads) fits c k r h
 
--- ---- calls that go together
+-- ---- calls that are made together
 
-pub commits_are_known : CommitsAreKnown
-commits_are_known layout s conversations r h =
-    let xs = all_changes conversations s.base.units in
-    (due_of_commit layout xs r h, subst (Releases layout (durable_part s)) (made xs r h) tt)
+asked_known : (layout : Layout) (a : Asked) (w : Work) → IsKnown layout (record_for a w)
+asked_known layout Commit w = known_commit layout w.changes
+asked_known layout (Through Prepare x) w = known_prepare layout x w
+asked_known layout (Through (Decide d) x) w = known_decide layout x d
 
-in_phase : (layout : Layout) (phase : Phase) (units : List Held) (x : List ℕ) → IsKnown layout (record_in phase units x)
-in_phase layout Prepare units x = known_prepare layout x (unit_of (global x) units)
-in_phase layout (Decide d) units x = known_decide layout x d
+all_known : (layout : Layout) (units : List Held) (cs : List GroupCall) → AllByRecursion (IsKnown layout) (records_of units cs)
+all_known layout units [] = tt
+all_known layout units (c ∷ cs) = (asked_known layout c.asked (unit_of (owner_in c) units), all_known layout units cs)
 
-all_in_phase : (layout : Layout) (phase : Phase) (units : List Held) (cs : List BranchCall) → AllByRecursion (IsKnown layout) (records_in phase units cs)
-all_in_phase layout phase units [] = tt
-all_in_phase layout phase units (c ∷ cs) = (in_phase layout phase units c.xid, all_in_phase layout phase units cs)
-
-pub phases_are_known : PhasesAreKnown
-phases_are_known layout s phase cs = all_in_phase layout phase s.base.units cs
+pub groups_are_known : GroupsAreKnown
+groups_are_known layout s cs = all_known layout s.base.units cs

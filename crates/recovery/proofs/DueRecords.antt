@@ -218,7 +218,7 @@ released_held held layout d e (heuristic x o) of h = let sum = held layout d e (
 released_held held layout d e (forgotten x) of h = let sum = held layout d e (forgotten x) of h in omega (arith, sum)
 
 -- what is due of a call is no heuristic decision
-abbrev is_other : UnitRecord → Bool
+abbrev pub is_other : UnitRecord → Bool
 is_other (heuristic x o) = false
 is_other _ = true
 

@@ -28,8 +28,7 @@ pub mod Deciding
 pub mod Silent
 pub mod DueRecords
 pub mod DueKinds
-pub mod Gathering
-pub mod Phasing
+pub mod Grouping
 pub mod Opening
 pub mod Beginning
 pub mod Outside

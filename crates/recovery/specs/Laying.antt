@@ -1,7 +1,7 @@
 -- Branches in doubt at a checkpoint: a record of each is laid behind its tables.
 use Rattle.std.specs.Prelude.{◌≡◌, ℕ, Bool, true, List, [], ◌∷◌, ◌&&◌, map, Option, Some, None}
 use Rattle.tables.specs.Tables.{Store}
-use Rattle.unit_records.specs.Records.{UnitRecord, entry_of, heuristic, prepared}
+use Rattle.unit_records.specs.Records.{UnitRecord, committed, decided, entry_of, forgotten, heuristic, prepared}
 use Rattle.xa_manager.specs.declared.due.Decision.{Decision}
 use Rattle.core_model.specs.Units.{Work}
 use Rattle.recovery.specs.Durable.{Doubt, Doubts, Durable, at_checkpoint, have_places, replayed_from}
@@ -25,7 +25,15 @@ abbrev pub is_placed : Store → Work → Option Decision → Bool
 is_placed store work None = have_places work.changes store
 is_placed store work (Some o) = true
 
--- and those of each
+-- so have the changes that a record prepares
+abbrev pub is_placed_by : Store → UnitRecord → Bool
+is_placed_by store (committed changes) = true
+is_placed_by store (prepared xid changes claims) = have_places changes store
+is_placed_by store (decided xid o) = true
+is_placed_by store (heuristic xid o) = true
+is_placed_by store (forgotten xid) = true
+
+-- and those of each unit
 abbrev pub are_placed : Doubts → Store → Bool
 are_placed [] store = true
 are_placed (e ∷ es) store = is_placed store e.1.work e.1.outcome && are_placed es store

@@ -20,10 +20,8 @@ use Rattle.half_store.specs.declared.header.Layout.{Layout}
 use Rattle.recovery.specs.Laws.{held_for}
 use Rattle.recovery.specs.Sound.{IsSound}
 use Rattle.unit_records.specs.Due.{record_due}
-use Rattle.unit_records.specs.Phases.{all_through, may_go_through, records_in}
-use Rattle.unit_records.specs.declared.phase.BranchCall.{BranchCall}
-use Rattle.unit_records.specs.declared.phase.Phase.{Phase}
-use Rattle.unit_records.specs.Together.{all_committed, are_apart, are_local, due_together}
+use Rattle.unit_records.specs.Together.{all_made, may_make, records_of}
+use Rattle.unit_records.specs.declared.group_call.GroupCall.{GroupCall}
 use Rattle.recovery.specs.Part.{durable_part, opened}
 use Rattle.recovery.specs.Kept.{IsKept}
 
@@ -83,48 +81,21 @@ pub record IsOpened (d : Durable) : Type 0 where
 abbrev pub OpeningsAreKept : Type 0
 OpeningsAreKept = (d : Durable) → IsSound d → IsOpened d
 
--- ---- conversations that commit together
+-- ---- calls that are made together
 
--- conversations of which none is named twice, and none works in a global unit
-pub record MayGoTogether (s : CoreState) (conversations : List ℕ) : Type 0 where
-  pub apart : are_apart conversations ≡ true
-  pub local : are_local s.branches conversations ≡ true
-
--- their commits keep a core
-abbrev pub CommitsKeep : Type 0
-CommitsKeep = (s : CoreState) (conversations : List ℕ) → IsKept s → MayGoTogether s conversations → IsKept (all_committed conversations s)
-
--- where no record is due of them all, nothing durable changes
-abbrev pub SilentCommitsStay : Type 0
-SilentCommitsStay = (s : CoreState) (conversations : List ℕ) → IsKept s → MayGoTogether s conversations
-    → due_together conversations s ≡ None → durable_part (all_committed conversations s) ≡ durable_part s
-
--- their one record has its place, and leads to what is durable behind them all
-abbrev pub CommitsLead : Type 0
-CommitsLead = (s : CoreState) (conversations : List ℕ) (r : UnitRecord) → IsKept s → MayGoTogether s conversations
-    → due_together conversations s ≡ Some r → next (durable_part s) r ≡ Some (durable_part (all_committed conversations s))
-
--- it is of every layout's kinds, and releases nothing
-abbrev pub CommitsAreKnown : Type 0
-CommitsAreKnown = (layout : Layout) (s : CoreState) (conversations : List ℕ) (r : UnitRecord)
-    → due_together conversations s ≡ Some r → IsKnown layout r × Releases layout (durable_part s) r
-
--- ---- branches that go through a phase together
-
--- their calls keep a core
-abbrev pub BranchesKeep : Type 0
-BranchesKeep = (s : CoreState) (phase : Phase) (cs : List BranchCall) → IsKept s → may_go_through phase s cs ≡ true → IsKept (all_through phase cs s)
+-- they keep a core
+abbrev pub GroupsKeep : Type 0
+GroupsKeep = (s : CoreState) (cs : List GroupCall) → IsKept s → IsKept (all_made cs s)
 
 -- their records have their places, one behind another, and lead to what is durable behind them all
-abbrev pub BranchesLead : Type 0
-BranchesLead = (s : CoreState) (phase : Phase) (cs : List BranchCall) → IsKept s → may_go_through phase s cs ≡ true
-    → replayed_from (durable_part s) (records_in phase s.base.units cs) ≡ Some (durable_part (all_through phase cs s))
+abbrev pub GroupsLead : Type 0
+GroupsLead = (s : CoreState) (cs : List GroupCall) → IsKept s → may_make s cs ≡ true → replayed_from (durable_part s) (records_of s.base.units cs) ≡ Some (durable_part (all_made cs s))
 
--- what they release was held for branches in doubt
-abbrev pub PhasesAreOfDoubts : Type 0
-PhasesAreOfDoubts = (layout : Layout) (s : CoreState) (phase : Phase) (cs : List BranchCall) → IsKept s → may_go_through phase s cs ≡ true
-    → (released_by layout (records_in phase s.base.units cs) ≤ held_for layout (durable_part s).doubts) × ReleaseAll layout (durable_part s) (records_in phase s.base.units cs)
+-- what they release is held for branches in doubt, before any of them
+abbrev pub GroupsAreOfDoubts : Type 0
+GroupsAreOfDoubts = (layout : Layout) (s : CoreState) (cs : List GroupCall) → IsKept s → may_make s cs ≡ true
+    → (released_by layout (records_of s.base.units cs) ≤ held_for layout (durable_part s).doubts) × ReleaseAll layout (durable_part s) (records_of s.base.units cs)
 
 -- they are of every layout's kinds
-abbrev pub PhasesAreKnown : Type 0
-PhasesAreKnown = (layout : Layout) (s : CoreState) (phase : Phase) (cs : List BranchCall) → AllByRecursion (IsKnown layout) (records_in phase s.base.units cs)
+abbrev pub GroupsAreKnown : Type 0
+GroupsAreKnown = (layout : Layout) (s : CoreState) (cs : List GroupCall) → AllByRecursion (IsKnown layout) (records_of s.base.units cs)

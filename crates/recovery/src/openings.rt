@@ -3,7 +3,7 @@
 ghost use Rattle.recovery.specs.Openings.{CrashesFindPoints, CrashesLeaveSane, EntriesTell, ImagesAreSound, ImagesBegin, OpeningsBegin, OpeningsStaySane, RecordsGoOn, StoresStaySane};
 
 use crate::laws::records_lead_to_sound_states;
-use crate::step_laws::{openings_are_kept, steps_are_recorded};
+use crate::step_laws::{heuristics_are_recorded, openings_are_kept, steps_are_recorded};
 use core_model::laws::histories_are_sane;
 use store_check::checkpoints_are_known;
 use unit_records::laws::records_have_one_reading;
@@ -20,20 +20,21 @@ pub fn openings_begin_histories()
     records_lead_to_sound_states();
 }
 
-/// What a crash leaves of a history, the state after the first of its records, was durable at some point of
-/// it. Records are known by their entries.
+/// What a crash leaves of a history of calls and heuristic decisions, the state after the first of its records, was durable at
+/// some point of it. Records are known by their entries.
 pub fn crashes_find_points()
     ensures points { CrashesFindPoints }
     ensures go_on { RecordsGoOn }
     ensures entries { EntriesTell }
 {
     steps_are_recorded();
+    heuristics_are_recorded();
     records_have_one_reading();
 }
 
 /// The rest of what serial order asks, that each change of a unit in doubt lies in a write claim of it:
 /// it holds after an opening where it held of the core that made the unit, over any crash, and so of every
-/// store that was made and then written by calls alone.
+/// store that was made and then written by calls and heuristic decisions alone.
 pub fn stores_stay_sane()
     ensures opened { OpeningsStaySane }
     ensures crashed { CrashesLeaveSane }
@@ -43,4 +44,5 @@ pub fn stores_stay_sane()
     openings_are_kept();
     records_lead_to_sound_states();
     steps_are_recorded();
+    heuristics_are_recorded();
 }

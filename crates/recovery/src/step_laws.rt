@@ -1,15 +1,13 @@
 //! Laws of the definitions. The functions do nothing: their contracts are the laws.
 
-ghost use Rattle.recovery.specs.StepLaws.{BranchesKeep, BranchesLead, CommitsAreKnown, CommitsKeep, CommitsLead, DecisionsAreOfDoubts, DecisionsKeep, DecisionsLead, DueAreKnown, HeuristicsAreOfDoubts, MisreadsKeep, MisreadsStay, OpeningsAreKept, PhasesAreKnown, PhasesAreOfDoubts, RecordsLead, SilentCommitsStay, SilentStepsStay, StepsKeep};
+ghost use Rattle.recovery.specs.StepLaws.{DecisionsAreOfDoubts, DecisionsKeep, DecisionsLead, DueAreKnown, GroupsAreKnown, GroupsAreOfDoubts, GroupsKeep, GroupsLead, HeuristicsAreOfDoubts, MisreadsKeep, MisreadsStay, OpeningsAreKept, RecordsLead, SilentStepsStay, StepsKeep};
 
-use crate::laws::{
-    decisions_of_all_are_held, doubts_hold_their_decisions, places_depend_on_tables,
-};
+use crate::laws::{doubts_hold_their_decisions, places_depend_on_tables};
 use crate::places::changes_have_places;
 use core_model::laws::units_in_doubt_wait;
 use tables::laws::changes_are_local;
 use unit_locks::adding;
-use unit_records::laws::branches_go_through;
+use unit_records::laws::calls_go_together;
 use xa_manager::{actions_fit_states, works_while_active};
 
 /// What is durable of a core is what its records lead to: each step of a kept core makes one record due at
@@ -56,27 +54,15 @@ pub fn openings_are_kept()
     ensures { OpeningsAreKept }
 {}
 
-/// Conversations that commit together have one record, which has its place among those before and leads to
-/// what is durable behind them all; without changes there is none, and nothing durable changes.
-pub fn commits_are_recorded()
-    ensures keep { CommitsKeep }
-    ensures silent { SilentCommitsStay }
-    ensures lead { CommitsLead }
-    ensures known { CommitsAreKnown }
+/// Calls that are made together keep a core, and have a record each. The records have their places one behind another, and
+/// lead to what is durable behind all of these calls; what they release was held for branches in doubt.
+pub fn groups_are_recorded()
+    ensures keep { GroupsKeep }
+    ensures lead { GroupsLead }
+    ensures decisions { GroupsAreOfDoubts }
+    ensures known { GroupsAreKnown }
 {
-    steps_are_recorded();
-}
-
-/// Branches that are prepared together, or decided together, have a record each. The records have their
-/// places one behind another, and lead to what is durable behind all of these calls; what they release was
-/// held for units in doubt.
-pub fn phases_are_recorded()
-    ensures keep { BranchesKeep }
-    ensures lead { BranchesLead }
-    ensures decisions { PhasesAreOfDoubts }
-    ensures known { PhasesAreKnown }
-{
-    branches_go_through();
-    decisions_of_all_are_held();
+    calls_go_together();
+    doubts_hold_their_decisions();
     steps_are_recorded();
 }

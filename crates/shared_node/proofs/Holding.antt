@@ -2,19 +2,18 @@
 use Rattle.std.proofs.Common.{◌≡◌, ◌⊎◌, ◌<◌, ◌+◌, ⊎_elim, ℕ, zero, suc, Bool, List, [], ◌∷◌, ◌++◌, map, Option, Some, None, length, slice_get, slice_set, append_assoc, append-nil, refl, sym, ap, subst, ◌∙◌, inl, inr, arith}
 use Rattle.drda_disk.specs.Disk.{Life}
 use Rattle.serializability.specs.Answered.{AnsweredCall}
-use Rattle.unit_records.specs.declared.phase.Phase.{Phase}
 use Rattle.core_history.specs.declared.count.Count.{Count}
 use Rattle.core_history.specs.declared.left.Left.{Left}
 use Rattle.core_history.specs.declared.pass.Pass.{Pass}
 use Rattle.core_history.specs.declared.wish.Wish.{Wish}
-use Rattle.core_history.specs.declared.wish.Wished.{Wished}
+use Rattle.unit_records.specs.declared.group_call.Asked.{Asked}
 use Rattle.core_history.specs.Books.{Told}
 use Rattle.core_history.specs.Gathered.{Agrees, AreApart, IsWaiting, all_counted, all_left, all_listed, count_at}
 use Rattle.core_history.specs.Passes.{Knows, count_of}
 use Rattle.core_history.proofs.Counting.{get_other, get_set, same_or_apart, set_length}
 use Rattle.recovery.specs.Journaled.{OnDisk}
 use Rattle.shared_node.specs.Standing.{Stands}
-use Rattle.shared_node.specs.Turns.{Fulfils, GoesOn, MayFulfil, MayGather, holder}
+use Rattle.shared_node.specs.Turns.{Fulfils, GoesOn, MayFulfil, holder}
 
 -- ---- whose leave it is
 
@@ -60,13 +59,10 @@ module _ {D : Type 0} where
   abbrev pub Goes : Told D → Told D → Type 0
   Goes a b = (more : List AnsweredCall) × GoesOn a more b
 
-  goes_then : (a b c : Told D) → Goes a b → Goes b c → Goes a c
-  goes_then a b c p q = (p.0 ++ q.0, goes_both a b c p.0 q.0 p.1 q.1)
-
   module _ (life : D → Life) where
-    gathers_go : (phase : Option Phase) (wishes : List Wish) (a b : Told D) → MayGather life phase wishes a b → Goes a b
-    gathers_go phase wishes a b (inl n) = ([], goes_core a b b.core n.book)
-    gathers_go phase wishes a b (inr g) = (
+    fulfils_go : (wishes : List Wish) (a b : Told D) → Fulfils life wishes a b → Goes a b
+    fulfils_go wishes a b (inl n) = ([], goes_core a b b.core n.book)
+    fulfils_go wishes a b (inr g) = (
       all_listed g.has_failed g.members,
       record {
         calls = g.calls;
@@ -75,12 +71,6 @@ module _ {D : Type 0} where
         next = g.next;
       },
     )
-
-    fulfils_go : (wishes : List Wish) (a b : Told D) → Fulfils life wishes a b → Goes a b
-    fulfils_go wishes a b f =
-        goes_then a f.committed b (gathers_go _ wishes a f.committed f.commits)
-        (goes_then f.committed f.prepared b (gathers_go _ wishes f.committed f.prepared f.prepares)
-        (goes_then f.prepared f.decided b (gathers_go _ wishes f.prepared f.decided f.decides) (gathers_go _ wishes f.decided b f.rolls_back)))
 
     pub waited_goes : (a b : Told D) → MayFulfil life a b → Goes a b
     waited_goes a b (inl same) = ([], goes_core a b a.core same)
@@ -165,10 +155,10 @@ module _ {Y : Type 0} {Z : Type 0} where
 
 -- ---- how the pass stands
 
-module _ {D : Type 0} (life : D → Life) (pass : Pass) (wished : Wished) (wishes : List Wish) (fair : (at : ℕ) (w : Wish) → slice_get wishes at ≡ Some w → Agrees pass wished w) where
-  stands_on : (phase : Option Phase) (a b : Told D) → MayGather life phase wishes a b → Stands a pass wished → Stands b pass wished
-  stands_on phase a b (inl n) s = subst (λ (t : Told D). Stands t pass wished) (sym n.book) (record { as_many = s.as_many; known = ⊎_elim (λ k. inl k) (λ w. inr (w.0, record { counted = w.1.counted; left = w.1.left })) s.known })
-  stands_on phase a b (inr g) s =
+module _ {D : Type 0} (life : D → Life) (pass : Pass) (wished : Asked) (wishes : List Wish) (fair : (at : ℕ) (w : Wish) → slice_get wishes at ≡ Some w → Agrees pass wished w) where
+  pub stands_behind : (a b : Told D) → Fulfils life wishes a b → Stands a pass wished → Stands b pass wished
+  stands_behind a b (inl n) s = subst (λ (t : Told D). Stands t pass wished) (sym n.book) (record { as_many = s.as_many; known = ⊎_elim (λ k. inl k) (λ w. inr (w.0, record { counted = w.1.counted; left = w.1.left })) s.known })
+  stands_behind a b (inr g) s =
       let as_many : length b.left ≡ length b.places =
       ap (λ (ls : List (Option Left)). length ls) g.left ∙ left_length g.has_failed g.members a.left ∙ s.as_many ∙ sym (ap (λ (ps : List (Option Count)). length ps) g.places ∙ counted_length g.members a.places) in
       ⊎_elim
@@ -191,7 +181,7 @@ module _ {D : Type 0} (life : D → Life) (pass : Pass) (wished : Wished) (wishe
             left = subst (λ (p : ℕ). slice_get b.left p ≡ Some (Some (now_left g.has_failed w))) here left
                 ∙ ap (λ (n : ℕ). Some (Some (record { conversation = n; number = w.count; wished = w.wished; has_failed = g.has_failed }))) conversation
                 ∙ ap (λ (n : ℕ). Some (Some (record { conversation = pass.conversation; number = n; wished = w.wished; has_failed = g.has_failed }))) count
-                ∙ ap (λ (x : Wished). Some (Some (record { conversation = pass.conversation; number = pass.count; wished = x; has_failed = g.has_failed }))) asks;
+                ∙ ap (λ (x : Asked). Some (Some (record { conversation = pass.conversation; number = pass.count; wished = x; has_failed = g.has_failed }))) asks;
           },
         );
       })
@@ -206,7 +196,3 @@ module _ {D : Type 0} (life : D → Life) (pass : Pass) (wished : Wished) (wishe
       let left : slice_get b.left pass.place ≡ slice_get a.left pass.place = ap (λ (ls : List (Option Left)). slice_get ls pass.place) g.left ∙ left_other g.has_failed g.members a.left pass.place never in
       record { as_many = as_many; known = ⊎_elim (λ k. inl (places ∙ k)) (λ w. inr (w.0, record { counted = places ∙ w.1.counted; left = left ∙ w.1.left })) s.known })
       (one_or_none g.members pass.place)
-
-  pub stands_behind : (a b : Told D) → Fulfils life wishes a b → Stands a pass wished → Stands b pass wished
-  stands_behind a b f s =
-      stands_on _ f.decided b f.rolls_back (stands_on _ f.prepared f.decided f.decides (stands_on _ f.committed f.prepared f.prepares (stands_on _ a f.committed f.commits s)))

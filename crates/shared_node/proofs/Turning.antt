@@ -13,12 +13,13 @@ use Rattle.core_history.specs.declared.acted.Acted.{Acted}
 use Rattle.core_history.specs.declared.acted.Acted.TheVariants.{Answered, StrangerPass}
 use Rattle.core_history.specs.declared.count.Count.{Count}
 use Rattle.core_history.specs.declared.pass.Pass.{Pass}
-use Rattle.core_history.specs.declared.wish.Wished.{Wished}
-use Rattle.core_history.specs.declared.wish.Wished.TheVariants.{Commit, Through}
+use Rattle.unit_records.specs.declared.group_call.Asked.{Asked}
+use Rattle.unit_records.specs.declared.group_call.Asked.TheVariants.{Commit, Through}
 use Rattle.core_history.specs.Books.{IsKept, Told}
 use Rattle.core_history.specs.Gathered.{Collects, CollectsNothing}
 use Rattle.core_history.specs.Passes.{Acts, IsAnswered, Knows, Rests, count_of}
-use Rattle.core_history.specs.Wishes.{answer_wished, call_wished}
+use Rattle.unit_records.specs.Together.{call_for}
+use Rattle.core_history.specs.Wishes.{answer_wished}
 use Rattle.core_history.proofs.Leading.{rests_then}
 use Rattle.shared_node.specs.Standing.{Stands}
 use Rattle.shared_node.specs.Turns.{GoesOn, HasCause, IsCollected, IsOwn, MayFulfil, TakesTurn, holder}
@@ -49,7 +50,7 @@ not_xa : {X : Type 0} (a : Answer) → SaysFailed a → a ≡ xa code.Done → X
 not_xa a (inl is) so = absurd (let both : closed ≡ xa code.Done = sym is ∙ so in cc both)
 not_xa a (inr is) so = absurd (let both : device_failed ≡ xa code.Done = sym is ∙ so in cc both)
 
-left_failed : (w : Wished) (f : Bool) (a : Answer) → SaysFailed a → a ≡ answer_wished w f → f ≡ true
+left_failed : (w : Asked) (f : Bool) (a : Answer) → SaysFailed a → a ≡ answer_wished w f → f ≡ true
 left_failed w true a says is = refl
 left_failed Commit false a says is = not_done a says is
 left_failed (Through phase xid) false a says is = not_xa a says is
@@ -144,14 +145,14 @@ module _ {D : Type 0} (modelled : Bool) (life : D → Life) where
     at_once found behind pass after call acted kept owns = turns found found behind pass after call acted (inl refl) owns (cause_of found found behind pass after call acted kept owns (λ knows never. never knows))
 
     -- a pass that stands and finds nothing left is known
-    still_known : (between behind : Told D) (pass after : Pass) (wished : Wished) → Stands between pass wished → CollectsNothing between pass wished behind after → (Knows between pass → ⊥) → ⊥
+    still_known : (between behind : Told D) (pass after : Pass) (wished : Asked) → Stands between pass wished → CollectsNothing between pass wished behind after → (Knows between pass → ⊥) → ⊥
     still_known between behind pass after wished s c never = ⊎_elim never (λ w. c.none w.0 w.1) s.known
 
-    stands_first : (found : Told D) (pass : Pass) (wished : Wished) → IsKept modelled life found → Knows found pass → Stands found pass wished
+    stands_first : (found : Told D) (pass : Pass) (wished : Asked) → IsKept modelled life found → Knows found pass → Stands found pass wished
     stands_first found pass wished kept knows = record { as_many = kept.as_many ∙ sym kept.sixty_four; known = inl knows }
 
     -- the call was asked behind those of others
-    pub asked_behind : (found between same behind : Told D) (pass too after : Pass) (wished : Wished) (call : Call) (acted : Acted) → IsKept modelled life found → IsKept modelled life between → MayFulfil life found between
+    pub asked_behind : (found between same behind : Told D) (pass too after : Pass) (wished : Asked) (call : Call) (acted : Acted) → IsKept modelled life found → IsKept modelled life between → MayFulfil life found between
         → (Stands found pass wished → Stands between pass wished) → CollectsNothing between pass wished same too → Acts modelled life same too call acted behind after → TakesTurn modelled life pass call acted after found behind
     asked_behind found between same behind pass too after wished call acted was kept waited stands none acts =
         let on_book = subst (λ (t : Told D). Acts modelled life t too call acted behind after) none.book acts in
@@ -160,7 +161,7 @@ module _ {D : Type 0} (modelled : Bool) (life : D → Life) where
         (cause_of found between behind pass after call acted kept owns (λ knows never. still_known between same pass too wished (stands (stands_first found pass wished was knows)) none never))
 
     -- or found to have been made with them
-    pub collected_behind : (found between behind : Told D) (pass after : Pass) (wished : Wished) (call : Call) (a : _) → IsKept modelled life between → MayFulfil life found between → call ≡ call_wished wished
+    pub collected_behind : (found between behind : Told D) (pass after : Pass) (wished : Asked) (call : Call) (a : _) → IsKept modelled life between → MayFulfil life found between → call ≡ call_for wished
         → Collects between pass wished (answer_of a) behind after → TakesTurn modelled life pass call (Answered a) after found behind
     collected_behind found between behind pass after wished call a kept waited is c =
         let owns : Owns between pass call (Answered a) behind after = inr (wished, is, c) in
@@ -168,7 +169,7 @@ module _ {D : Type 0} (modelled : Bool) (life : D → Life) where
 
     -- ---- the same, where nothing was left at first
 
-    pub asked_at_last : (found first between same behind : Told D) (pass early too after : Pass) (wished : Wished) (call : Call) (acted : Acted) → IsKept modelled life found → IsKept modelled life between
+    pub asked_at_last : (found first between same behind : Told D) (pass early too after : Pass) (wished : Asked) (call : Call) (acted : Acted) → IsKept modelled life found → IsKept modelled life between
         → CollectsNothing found pass wished first early → MayFulfil life first between → (Stands first early wished → Stands between early wished) → CollectsNothing between early wished same too
         → Acts modelled life same too call acted behind after → TakesTurn modelled life pass call acted after found behind
     asked_at_last found first between same behind pass early too after wished call acted was kept before waited stands none acts =
@@ -176,14 +177,14 @@ module _ {D : Type 0} (modelled : Bool) (life : D → Life) where
         (subst (λ (t : Told D). Stands t pass wished → Stands between pass wished) before.book (subst (λ (p : Pass). Stands first p wished → Stands between p wished) before.same stands))
         (subst (λ (p : Pass). CollectsNothing between p wished same too) before.same none) acts
 
-    pub collected_at_last : (found first between behind : Told D) (pass early after : Pass) (wished : Wished) (call : Call) (a : _) → IsKept modelled life between → CollectsNothing found pass wished first early
-        → MayFulfil life first between → call ≡ call_wished wished → Collects between early wished (answer_of a) behind after → TakesTurn modelled life pass call (Answered a) after found behind
+    pub collected_at_last : (found first between behind : Told D) (pass early after : Pass) (wished : Asked) (call : Call) (a : _) → IsKept modelled life between → CollectsNothing found pass wished first early
+        → MayFulfil life first between → call ≡ call_for wished → Collects between early wished (answer_of a) behind after → TakesTurn modelled life pass call (Answered a) after found behind
     collected_at_last found first between behind pass early after wished call a kept before waited is c =
         collected_behind found between behind pass after wished call a kept (subst (λ (t : Told D). MayFulfil life t between) before.book waited) is
         (subst (λ (p : Pass). Collects between p wished (answer_of a) behind after) before.same c)
 
     -- the same, where the book between is seen by another name
-    pub asked_as_seen : (found first between seen same behind : Told D) (pass early too after : Pass) (wished : Wished) (call : Call) (acted : Acted) → between ≡ seen → IsKept modelled life found → IsKept modelled life between
+    pub asked_as_seen : (found first between seen same behind : Told D) (pass early too after : Pass) (wished : Asked) (call : Call) (acted : Acted) → between ≡ seen → IsKept modelled life found → IsKept modelled life between
         → CollectsNothing found pass wished first early → MayFulfil life first seen → (Stands first early wished → Stands seen early wished) → CollectsNothing between early wished same too
         → Acts modelled life same too call acted behind after → TakesTurn modelled life pass call acted after found behind
     asked_as_seen found first between seen same behind pass early too after wished call acted view was kept before waited stands none acts =

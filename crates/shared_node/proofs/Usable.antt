@@ -19,11 +19,12 @@ use Rattle.conversation.proofs.Failing.{only_unusable_answers}
 use Rattle.core_history.specs.declared.acted.Acted.{Acted}
 use Rattle.core_history.specs.declared.acted.Acted.TheVariants.{Answered, StrangerPass}
 use Rattle.core_history.specs.declared.pass.Pass.{Pass}
-use Rattle.core_history.specs.declared.wish.Wished.{Wished}
-use Rattle.core_history.specs.declared.wish.Wished.TheVariants.{Commit, Through}
+use Rattle.unit_records.specs.declared.group_call.Asked.{Asked}
+use Rattle.unit_records.specs.declared.group_call.Asked.TheVariants.{Commit, Through}
 use Rattle.core_history.specs.Books.{Told}
 use Rattle.core_history.specs.Passes.{Acts}
-use Rattle.core_history.specs.Wishes.{answer_wished, call_wished}
+use Rattle.unit_records.specs.Together.{call_for}
+use Rattle.core_history.specs.Wishes.{answer_wished}
 use Rattle.shared_node.specs.Closing.{IsInVain, OnlyFailedCoresClose}
 use Rattle.shared_node.specs.Desks.{DeskAsks, answer_told}
 use Rattle.shared_node.specs.Turns.{IsCollected, TakesTurn}
@@ -90,13 +91,13 @@ both : {X : Type 0} (b : Bool) → b ≡ true → b ≡ false → X
 both true so ne = absurd (let e : true ≡ false = ne in cc e)
 both false so ne = absurd (let e : false ≡ true = so in cc e)
 
-done_is_usable : (w : Wished) → is_usable (call_wished w) (answer_wished w false) ≡ true
+done_is_usable : (w : Asked) → is_usable (call_for w) (answer_wished w false) ≡ true
 done_is_usable Commit = refl
 done_is_usable (Through phase xid) = refl
 
-left_says : (w : Wished) (f : Bool) (k : Call) (a : Answer) → k ≡ call_wished w → a ≡ answer_wished w f → is_usable k a ≡ false → SaysFailed a
+left_says : (w : Asked) (f : Bool) (k : Call) (a : Answer) → k ≡ call_for w → a ≡ answer_wished w f → is_usable k a ≡ false → SaysFailed a
 left_says w true k a call_is is unusable = inr is
-left_says w false k a call_is is unusable = both (is_usable k a) (ap (λ (c : Call). is_usable c a) call_is ∙ ap (is_usable (call_wished w)) is ∙ done_is_usable w) unusable
+left_says w false k a call_is is unusable = both (is_usable k a) (ap (λ (c : Call). is_usable c a) call_is ∙ ap (is_usable (call_for w)) is ∙ done_is_usable w) unusable
 
 module _ {D : Type 0} (modelled : Bool) (life : D → Life) (belong : AnswersBelong) where
   excused_says : (at new : OnDisk D) (n : ℕ) (k : Call) (a : Answer) → is_usable k a ≡ false → IsExcused modelled (shown_on life at) n k a (shown_on life new) → SaysFailed a

@@ -6,19 +6,16 @@ use Rattle.core_calls.specs.Call.{Call, lost}
 use Rattle.core_calls.specs.Answer.{Answer, answer_of, closed, device_failed}
 use Rattle.core_model.specs.Step.{Mark}
 use Rattle.serializability.specs.Answered.{AnsweredCall}
-use Rattle.unit_records.specs.declared.phase.Phase.{Phase}
-use Rattle.unit_records.specs.declared.phase.Phase.TheVariants.{Decide, Prepare}
-use Rattle.xa_manager.specs.declared.due.Decision.TheVariants as decision
 use Rattle.core_history.specs.declared.acted.Acted.{Acted}
 use Rattle.core_history.specs.declared.acted.Acted.TheVariants.{Answered, StrangerPass}
 use Rattle.core_history.specs.declared.count.Count.{Count}
 use Rattle.core_history.specs.declared.pass.Pass.{Pass}
 use Rattle.core_history.specs.declared.wish.Wish.{Wish}
-use Rattle.core_history.specs.declared.wish.Wished.{Wished}
+use Rattle.unit_records.specs.declared.group_call.Asked.{Asked}
 use Rattle.core_history.specs.Books.{Told}
 use Rattle.core_history.specs.Gathered.{Collects, Gathers, GathersNone}
 use Rattle.core_history.specs.Passes.{Acts, Knows, Rests}
-use Rattle.core_history.specs.Wishes.{call_wished}
+use Rattle.unit_records.specs.Together.{call_for}
 
 -- ---- what stays
 
@@ -36,19 +33,9 @@ pub record GoesOn {D : Type 0} (found : Told D) (more : List AnsweredCall) (left
 module _ {D : Type 0} (life : D → Life) where
   -- ---- those who wait
 
-  -- those of the wishes that are for this phase, or to commit, are fulfilled together, where that is possible
-  abbrev pub MayGather : Option Phase → List Wish → Told D → Told D → Type 0
-  MayGather phase wishes old new = GathersNone life old new ⊎ Gathers life phase old wishes new
-
-  -- one kind behind the other
-  pub record Fulfils (wishes : List Wish) (old new : Told D) : Type 0 where
-    pub committed : Told D
-    pub prepared : Told D
-    pub decided : Told D
-    pub commits : MayGather None wishes old committed
-    pub prepares : MayGather (Some Prepare) wishes committed prepared
-    pub decides : MayGather (Some (Decide decision.Commit)) wishes prepared decided
-    pub rolls_back : MayGather (Some (Decide decision.RollBack)) wishes decided new
+  -- those of the wishes that can be are fulfilled together, where that is possible
+  abbrev pub Fulfils : List Wish → Told D → Told D → Type 0
+  Fulfils wishes old new = GathersNone life old new ⊎ Gathers life old wishes new
 
   -- some wishes are fulfilled, or none are looked at
   abbrev pub MayFulfil : Told D → Told D → Type 0
@@ -58,7 +45,7 @@ module _ {D : Type 0} (life : D → Life) where
 
 -- the call was made with those of others, and the answer was left
 abbrev pub IsCollected : {D : Type 0} → Told D → Pass → Call → Acted → Told D → Pass → Type 0
-IsCollected old pass call (Answered a) new after = (wished : Wished) × (call ≡ call_wished wished) × Collects old pass wished (answer_of a) new after
+IsCollected old pass call (Answered a) new after = (wished : Asked) × (call ≡ call_for wished) × Collects old pass wished (answer_of a) new after
 IsCollected old pass call StrangerPass new after = ⊥
 
 -- the call is listed, once, or nothing is

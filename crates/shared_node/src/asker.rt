@@ -6,11 +6,12 @@ use crate::shared::Shared;
 use crate::turn::{Begun, Turn, full_of, time};
 use command_kit::Ask;
 use core_calls::{Answer, CoreCall};
-use core_history::{Acted, Pass, Wished, has_run_behind, wished_by};
+use core_history::{Acted, Pass, has_run_behind, wished_by};
 use drda_disk::Disk;
 use std::marker::Model;
 use std::sync::Wait;
 use std::time::Clock;
+use unit_records::Asked;
 
 /// Who asks the book for one conversation, under the lock, call by call: its turn comes outside of the lock, the call and
 /// what it lists are one step inside of it. To clauses it is its pass.
@@ -75,7 +76,7 @@ impl<'a, D: Disk, B: Origin<D>, R: Wait + Clock, G: Gate> Asker<'a, D, B, R, G> 
     }
 
     // The conversation comes to the lock: whether it leads a group.
-    fn come(&self, wished: &Option<Wished>) -> bool {
+    fn come(&self, wished: &Option<Asked>) -> bool {
         let waiting = &self.shared.waiting;
         match wished {
             Some(wished) => waiting.wish(self.rt, self.pass.wish(*wished)),
@@ -99,7 +100,7 @@ impl<'a, D: Disk, B: Origin<D>, R: Wait + Clock, G: Gate> Ask for Asker<'a, D, B
         self.has_run = has_run_behind(self.has_run, call);
         let came = time(self.rt);
         let leads = self.come(&wished);
-        let (acted, turn) = {
+        let (acted, turn, full) = {
             let mut guard = self.shared.held.lock(self.rt);
             let held = &mut *guard;
             let waiting = &self.shared.waiting;
@@ -108,17 +109,15 @@ impl<'a, D: Disk, B: Origin<D>, R: Wait + Clock, G: Gate> Ask for Asker<'a, D, B
             }
             let begun = Begun::new(self.rt, came, &held.book);
             let acted = held.take_turn(self.rt, waiting, &mut self.pass, call, &wished);
-            (acted, begun.end(self.rt, &held.book))
+            let full = full_of(&acted, &held.book);
+            (acted, begun.end(self.rt, &held.book), full)
         };
         if leads {
             self.shared.waiting.end(self.rt, turn.held);
         }
         self.waited = self.waited.max(turn.waited);
         self.held = self.held.max(turn.held);
-        let turn = Turn {
-            full: full_of(&acted),
-            ..turn
-        };
+        let turn = Turn { full, ..turn };
         self.gate.after(self.pass.conversation(), &turn);
         told(acted)
     }

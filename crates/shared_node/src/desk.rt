@@ -1,6 +1,8 @@
 //! One conversation's place at the book.
 
 ghost use Rattle.std.specs.Prelude.{◌≡◌, IfSome};
+ghost use Rattle.counted_streams.specs.Counts.{counts, sink_of, source_of};
+ghost use Rattle.stream_service.specs.Serving.{TellsFaults};
 ghost use Rattle.shared_node.specs.Desks.{DeskAsks};
 ghost use Rattle.shared_node.specs.Served.{IsLost, IsServed};
 
@@ -10,6 +12,7 @@ use crate::origin::Origin;
 use crate::shared::Shared;
 use conversation::{Front, Settings};
 use core_history::Pass;
+use counted_streams::{Reader, Writer};
 use drda_disk::Disk;
 use dss_frames::stays_read;
 use std::alloc::Global;
@@ -58,17 +61,19 @@ impl<'a, D: Disk, B: Origin<D>, R: Wait + Clock, G: Gate> Desk<'a, D, B, R, G> {
 
     /// Serves a conversation over a stream, from its first byte to its loss: what it is answered is what its pass shows as
     /// listed, and its loss is the last call. Where memory is refused before the first byte, nothing is heard, asked or
-    /// written. `host` looks on; nothing that is said here depends on it.
+    /// written. A failed read is told only where one has failed, or 2^63 were not enough, and a failed write only where one has failed.
+    /// `host` looks on; nothing that is said here depends on it.
     pub fn serve<I: Read, O: Write, H: Host>(
         self,
         alloc: Global,
         settings: &Settings,
-        reader: &mut I,
-        writer: &mut O,
+        reader: &mut Reader<I>,
+        writer: &mut Writer<O>,
         host: &mut H,
     ) -> Ended
-        ensures served { IfSome (I.remaining reader.old) (λ input. IsServed (DeskAsks D.is_modelled D.life B.is) settings.now self.entry.pass input (O.contents writer.old) result.served (O.contents writer.new) result.pass) }
+        ensures served { IfSome (I.remaining (source_of reader.old)) (λ input. IsServed (DeskAsks D.is_modelled D.life B.is) settings.now self.entry.pass input (O.contents (sink_of writer.old)) result.served (O.contents (sink_of writer.new)) result.pass) }
         ensures lost { IsLost (DeskAsks D.is_modelled D.life B.is) self.entry.pass result.served result.pass }
+        ensures cause { TellsFaults result.served (counts reader.old writer.old) (counts reader.new writer.new) }
     {
         let mut asker = Asker::new(self.rt, self.shared, self.gate, self.pass);
         let served = serve_asker(alloc, settings, &mut asker, reader, writer, host);
@@ -87,12 +92,13 @@ fn serve_asker<'a, D: Disk, B: Origin<D>, R: Wait + Clock, G: Gate, I: Read, O: 
     alloc: Global,
     settings: &Settings,
     asker: &mut Asker<'a, D, B, R, G>,
-    reader: &mut I,
-    writer: &mut O,
+    reader: &mut Reader<I>,
+    writer: &mut Writer<O>,
     host: &mut H,
 ) -> Served
-    ensures served { IfSome (I.remaining reader.old) (λ input. IsServed (DeskAsks D.is_modelled D.life B.is) settings.now asker.old input (O.contents writer.old) result (O.contents writer.new) asker.new) }
+    ensures served { IfSome (I.remaining (source_of reader.old)) (λ input. IsServed (DeskAsks D.is_modelled D.life B.is) settings.now asker.old input (O.contents (sink_of writer.old)) result (O.contents (sink_of writer.new)) asker.new) }
     ensures lost { IsLost (DeskAsks D.is_modelled D.life B.is) asker.old result asker.new }
+    ensures cause { TellsFaults result (counts reader.old writer.old) (counts reader.new writer.new) }
 {
     stays_read();
     match Front::new(alloc, settings) {

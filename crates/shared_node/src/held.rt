@@ -4,15 +4,14 @@ use crate::origin::Origin;
 use crate::turn::{Begun, Turn};
 use crate::waiting::Waiting;
 use core_calls::CoreCall;
-use core_history::{Acted, Book, Pass, Wish, Wished};
+use core_history::{Acted, Book, Pass, Wish};
 use drda_disk::Disk;
 use recovery::images::calls_go_on;
 use serializability::answers::answers_belong_to_calls;
 use std::marker::{Model, PhantomData};
 use std::sync::Wait;
 use std::time::{Clock, Instant};
-use unit_records::Phase;
-use xa_manager::Decision;
+use unit_records::Asked;
 
 /// What lies under the lock: the book, which was opened over a core of which this is known, and a list for the wishes that are
 /// being fulfilled, which is used again. To clauses it is the book.
@@ -42,7 +41,7 @@ impl<D: Disk, B: Origin<D>> Held<D, B> {
     ghost use Rattle.core_calls.specs.Call.{call_of};
     ghost use Rattle.core_history.specs.Books.{IsKept};
     ghost use Rattle.core_history.specs.Passes.{Admits, HasNoLeave, Knows, retired};
-    ghost use Rattle.core_history.specs.Wishes.{call_wished};
+    ghost use Rattle.unit_records.specs.Together.{call_for};
     ghost use Rattle.recovery.specs.Journaled.{Journaled, shown_on};
     ghost use Rattle.shared_node.specs.Desks.{DeskActs};
     ghost use Rattle.shared_node.specs.Locked.{Considers};
@@ -122,9 +121,9 @@ impl<D: Disk, B: Origin<D>> Held<D, B> {
         waiting: &Waiting,
         pass: &mut Pass,
         call: &CoreCall<'_, '_, '_>,
-        wished: &Option<Wished>,
+        wished: &Option<Asked>,
     ) -> Acted
-        requires { (w : _) → wished.now ≡ Some w → call_of call.now ≡ call_wished w }
+        requires { (w : _) → wished.now ≡ Some w → call_of call.now ≡ call_for w }
         ensures shows { DeskActs pass.old (call_of call.now) result pass.new }
         ensures turn { TakesTurn D.is_modelled D.life pass.old (call_of call.now) result pass.new self.old self.new }
         ensures was_kept { IsKept D.is_modelled D.life self.old }
@@ -148,9 +147,9 @@ impl<D: Disk, B: Origin<D>> Held<D, B> {
         waiting: &Waiting,
         pass: &mut Pass,
         call: &CoreCall<'_, '_, '_>,
-        wished: &Option<Wished>,
+        wished: &Option<Asked>,
     ) -> Acted
-        requires { (w : _) → wished.now ≡ Some w → call_of call.now ≡ call_wished w }
+        requires { (w : _) → wished.now ≡ Some w → call_of call.now ≡ call_for w }
         ensures shows { DeskActs pass.old (call_of call.now) result pass.new }
         ensures turn { TakesTurn D.is_modelled D.life pass.old (call_of call.now) result pass.new self.old self.new }
         ensures journaled { Journaled D.is_modelled (shown_on D.life self.old.core) (shown_on D.life self.new.core) }
@@ -173,7 +172,7 @@ impl<D: Disk, B: Origin<D>> Held<D, B> {
     }
 
     // Makes together what is wished for, for all who wait; nothing, where a wish at the pass's place is none of its own.
-    fn fulfil<R: Wait>(&mut self, rt: &R, waiting: &Waiting, pass: &Pass, wished: &Wished)
+    fn fulfil<R: Wait>(&mut self, rt: &R, waiting: &Waiting, pass: &Pass, wished: &Asked)
         ensures fulfils { MayFulfil D.life self.old self.new }
         ensures stands { Stands self.old pass.now wished.now → Stands self.new pass.now wished.now }
         ensures journaled { Journaled D.is_modelled (shown_on D.life self.old.core) (shown_on D.life self.new.core) }
@@ -189,7 +188,7 @@ ghost use Rattle.core_history.specs.Gathered.{Agrees};
 ghost use Rattle.core_history.specs.Passes.{Rests};
 ghost use Rattle.recovery.specs.Journaled.{Journaled, shown_on};
 ghost use Rattle.shared_node.specs.Standing.{Stands};
-ghost use Rattle.shared_node.specs.Turns.{Fulfils, MayFulfil};
+ghost use Rattle.shared_node.specs.Turns.{MayFulfil};
 
 // Behind a loss a checkpoint is considered.
 fn rest_behind<D: Disk>(book: &mut Book<D>, call: &CoreCall<'_, '_, '_>)
@@ -205,14 +204,14 @@ fn rest_behind<D: Disk>(book: &mut Book<D>, call: &CoreCall<'_, '_, '_>)
 }
 
 // Whether each wish at the pass's place is its own.
-fn are_fair(wishes: &[Wish], pass: &Pass, wished: &Wished) -> bool
+fn are_fair(wishes: &[Wish], pass: &Pass, wished: &Asked) -> bool
     ensures { result ≡ true → (at : _) (wish : _) → slice_get wishes.now at ≡ Some wish → Agrees pass.now wished.now wish }
 {
     wishes.iter().all(|wish| pass.agrees(wish, wished))
 }
 
 // Makes together what is wished for, where each wish at the pass's place is its own.
-fn fulfil_where_fair<D: Disk>(book: &mut Book<D>, wishes: &[Wish], pass: &Pass, wished: &Wished)
+fn fulfil_where_fair<D: Disk>(book: &mut Book<D>, wishes: &[Wish], pass: &Pass, wished: &Asked)
     ensures fulfils { MayFulfil D.life book.old book.new }
     ensures stands { Stands book.old pass.now wished.now → Stands book.new pass.now wished.now }
     ensures journaled { Journaled D.is_modelled (shown_on D.life book.old.core) (shown_on D.life book.new.core) }
@@ -220,18 +219,6 @@ fn fulfil_where_fair<D: Disk>(book: &mut Book<D>, wishes: &[Wish], pass: &Pass, 
     calls_go_on::<D>();
     book.core().is_durable();
     if are_fair(wishes, pass, wished) {
-        fulfil_kinds(book, wishes);
+        book.make_together(wishes);
     }
-}
-
-// Makes together what is wished for, one kind behind the other: commits, and each phase of two-phase commit.
-fn fulfil_kinds<D: Disk>(book: &mut Book<D>, wishes: &[Wish])
-    ensures fulfils { Fulfils D.life wishes.now book.old book.new }
-    ensures journaled { Journaled D.is_modelled (shown_on D.life book.old.core) (shown_on D.life book.new.core) }
-{
-    calls_go_on::<D>();
-    book.make_together(None, wishes);
-    book.make_together(Some(Phase::Prepare), wishes);
-    book.make_together(Some(Phase::Decide(Decision::Commit)), wishes);
-    book.make_together(Some(Phase::Decide(Decision::RollBack)), wishes);
 }

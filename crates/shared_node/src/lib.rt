@@ -13,8 +13,9 @@ mod shared;
 mod turn;
 mod waiting;
 
-pub use core_history::{Acted, Book, CallList, Count, Left, Pass, Wish, Wished};
+pub use core_history::{Acted, Book, CallList, Count, Lack, Left, Pass, Wish};
 pub use desk::{Desk, Ended};
+pub use durable_core::Gauge;
 pub use gate::{Gate, OpenGate};
 pub use origin::Origin;
 pub use shared::Shared;

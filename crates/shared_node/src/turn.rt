@@ -3,8 +3,9 @@
 ghost use Rattle.std.specs.Prelude.{◌≡◌, IfSome};
 
 use core_calls::Answer;
-use core_history::{Acted, Book};
+use core_history::{Acted, Book, Lack};
 use drda_disk::Disk;
+use durable_core::Gauge;
 use std::time::{Clock, Instant};
 
 /// What a turn at the lock was like. Of its times no contract says anything.
@@ -16,6 +17,8 @@ pub struct Turn {
     pub held: u64,
     /// The bytes that are left for records, where a checkpoint was written in this turn.
     pub checkpointed: Option<usize>,
+    /// How full the store is behind this turn.
+    pub gauge: Gauge,
     /// Whether the device failed in this turn.
     pub has_failed: bool,
     /// Whether its call was answered that its record finds no room.
@@ -29,14 +32,17 @@ pub struct Full {
     pub need: u64,
     /// The bytes that are left.
     pub room: u64,
+    /// What it has no room in.
+    pub lack: Lack,
 }
 
-/// Whether a call was answered so.
-pub(crate) fn full_of(acted: &Acted) -> Option<Full> {
+/// Whether a call of this book was answered so.
+pub(crate) fn full_of<D: Disk>(acted: &Acted, book: &Book<D>) -> Option<Full> {
     match acted {
         Acted::Answered(Answer::Full { need, room }) => Some(Full {
             need: *need,
             room: *room,
+            lack: book.lack(),
         }),
         Acted::Answered(_) | Acted::StrangerPass => None,
     }
@@ -52,7 +58,9 @@ pub(crate) struct Begun {
 }
 
 impl Begun {
-    ghost use Rattle.std.specs.Prelude.{◌≡◌, IfSome, false, true};
+    ghost use Rattle.std.specs.Prelude.{◌≡◌, IfSome, IsTrue, false, true};
+    ghost use Rattle.durable_core.specs.Gauging.{IsGauge};
+    ghost use Rattle.recovery.specs.Journaled.{shown_on};
 
     /// The lock was waited for since this time, and is held now.
     pub(crate) fn new<D: Disk, R: Clock>(rt: &R, since: Option<Instant>, book: &Book<D>) -> Begun
@@ -70,6 +78,7 @@ impl Begun {
     /// The turn, which ends now.
     pub(crate) fn end<D: Disk, R: Clock>(self, rt: &R, book: &Book<D>) -> Turn
         ensures room { IfSome result.checkpointed (λ room. room ≡ book.now.core.room) }
+        ensures gauge { IsTrue D.is_modelled → book.now.core.is_failed ≡ false → IsGauge (shown_on D.life book.now.core) result.gauge }
         ensures failed { result.has_failed ≡ true → (self.is_failed ≡ false) × (book.now.core.is_failed ≡ true) }
         ensures unfailed { self.is_failed ≡ false → book.now.core.is_failed ≡ true → result.has_failed ≡ true }
     {
@@ -77,6 +86,7 @@ impl Begun {
             waited: self.waited,
             held: micros_between(self.at, time(rt)),
             checkpointed: room_where(book, book.checkpoints() != self.written),
+            gauge: book.core().gauge(),
             has_failed: book.core().is_failed() && !self.is_failed,
             full: None,
         }

@@ -2,21 +2,12 @@
 
 use crate::books::{Desks, place_of};
 use core_calls::{Answer, CoreCall};
-use shared_node::Wished;
 use sql_text::{SqlError, Statement, parse};
 use std::alloc::Global;
 use test_calls::{push_answer, push_text, xid_of};
-use unit_records::Phase;
+use unit_records::{Asked, Phase};
 use xa_calls::{InvalidRequest, Request};
 use xa_manager::Decision;
-
-// What is made together, one kind behind the other: commits, and each phase of two-phase commit.
-const KINDS: [Option<Phase>; 4] = [
-    None,
-    Some(Phase::Prepare),
-    Some(Phase::Decide(Decision::Commit)),
-    Some(Phase::Decide(Decision::RollBack)),
-];
 
 // The phase of two-phase commit that a word names.
 fn phase_named(word: &str) -> Option<Phase> {
@@ -29,12 +20,12 @@ fn phase_named(word: &str) -> Option<Phase> {
 }
 
 // Whose wish it is, and what for: to commit, where no more is said, or a phase of a branch.
-fn wish_in(alloc: Global, rest: &str) -> Option<(u64, Wished)> {
+fn wish_in(alloc: Global, rest: &str) -> Option<(u64, Asked)> {
     let Some((number, words)) = rest.split_once(' ') else {
-        return Some((rest.parse::<u64>().ok()?, Wished::Commit));
+        return Some((rest.parse::<u64>().ok()?, Asked::Commit));
     };
     let (verb, word) = words.split_once(' ')?;
-    let wished = Wished::Through(phase_named(verb)?, xid_of(alloc, word)?);
+    let wished = Asked::Through(phase_named(verb)?, xid_of(alloc, word)?);
     Some((number.parse::<u64>().ok()?, wished))
 }
 
@@ -62,7 +53,7 @@ impl Desks {
     }
 
     // The conversation of the pass of this number has a wish.
-    fn wish(&mut self, number: u64, wished: Wished) -> Option<()> {
+    fn wish(&mut self, number: u64, wished: Asked) -> Option<()> {
         let Some(Some(pass)) = self.passes.get(place_of(number)?) else {
             return None;
         };
@@ -74,15 +65,13 @@ impl Desks {
         let Some(book) = &mut self.book else {
             return None;
         };
-        for kind in KINDS {
-            book.make_together(kind, &self.wishes);
-        }
+        book.make_together(&self.wishes);
         self.wishes.clear();
         Some(())
     }
 
     // What is left for the pass of this number.
-    fn collect(&mut self, number: u64, wished: Wished) -> Option<Option<Answer>> {
+    fn collect(&mut self, number: u64, wished: Asked) -> Option<Option<Answer>> {
         let Some(Some(pass)) = self.passes.get_mut(place_of(number)?) else {
             return None;
         };
@@ -92,7 +81,7 @@ impl Desks {
         Some(book.collect(pass, &wished))
     }
 
-    fn say_collected(&mut self, number: u64, wished: Wished, out: &mut Vec<u8>) -> Option<()> {
+    fn say_collected(&mut self, number: u64, wished: Asked, out: &mut Vec<u8>) -> Option<()> {
         match self.collect(number, wished)? {
             Some(answer) => push_answer(self.alloc, out, &answer),
             None => push_text(out, "nothing"),

@@ -3,6 +3,7 @@
 use crate::books::{Core, place_of};
 use crate::tallies::{Tally, Told};
 use conversation::Settings;
+use counted_streams::{Reader, Writer};
 use drda_disk::{FuseDisk, MemDisk};
 use shared_node::{Desk, Pass, Shared};
 use std::alloc::Global;
@@ -73,10 +74,10 @@ fn hold<R: Wait + Clock>(
     let said = said(alloc, writes, times)?;
     let tally = Tally::new();
     let desk = Desk::new(rt, shared, &tally, shared.admit(rt)?);
-    let mut reader = said.as_slice();
-    let mut replies = Vec::new(alloc);
-    let ended = desk.serve(alloc, &settings, &mut reader, &mut replies, &mut OpenHouse);
-    Some((ended.pass, ends_in(&replies), tally.told()))
+    let mut reader = Reader::new(said.as_slice());
+    let mut writer = Writer::new(Vec::new(alloc));
+    let ended = desk.serve(alloc, &settings, &mut reader, &mut writer, &mut OpenHouse);
+    Some((ended.pass, ends_in(&writer.into_inner()), tally.told()))
 }
 
 impl Locks {

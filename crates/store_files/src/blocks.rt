@@ -18,7 +18,7 @@ const AT_ONCE: usize = 1_048_576;
 
 /// Writes zeros over a disk, so that the system has its blocks and no later write finds none. The first 8,192 bytes are left. A crash
 /// meanwhile leaves no store. Memory for a mebibyte may be refused.
-pub(crate) fn reserve_blocks<D: Disk>(alloc: Global, disk: &mut D) -> Result<(), Fault>
+pub fn reserve_blocks<D: Disk>(alloc: Global, disk: &mut D) -> Result<(), Fault>
     ensures size { length (D.life disk.new).seen ≡ length (D.life disk.old).seen }
     ensures moments { IsUnmarked (D.life disk.old) → LeavesOnly (D.life disk.old) (D.life disk.new) (λ image. is_marked image ≡ false) }
     ensures cause { IfErr result IsOfDevice }

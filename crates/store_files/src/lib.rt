@@ -7,6 +7,7 @@ mod files;
 mod stores;
 mod streams;
 
+pub use blocks::reserve_blocks;
 pub use fault::Fault;
 pub use files::{StoreFiles, SystemFiles};
 pub use stores::{fault_of, fresh, make_file, open_file, open_to_run};

@@ -77,12 +77,14 @@ pub fn make_file<F: StoreFiles>(
     let Ok(mut disk) = files.create(path, size as usize) else {
         return Err(Fault::Device);
     };
-    let made = make_on(alloc, &mut disk, size as usize, rdb);
-    if made.is_err() {
-        drop(disk);
-        files.discard(path);
+    match make_on(alloc, &mut disk, size as usize, rdb) {
+        Ok(()) => Ok(()),
+        Err(fault) => {
+            drop(disk);
+            files.discard(path);
+            Err(fault)
+        }
     }
-    made
 }
 
 /// The core over the store that a disk is.

@@ -2,6 +2,7 @@
 -- what a crash leaves at each moment.
 use Rattle.std.specs.Prelude.{◌≡◌, ◌⊎◌, ℕ, Bool, true, false, IsTrue, List, [], ◌++◌, Option, Some, IfSome, Result, Ok, Err}
 use Rattle.std.specs.List.{AllByRecursion}
+use Rattle.counted_streams.specs.Faults.{Counts}
 use Rattle.drda_disk.specs.Disk.{LeavesOnly, Life, Now, Only, Stays}
 use Rattle.session_commands.specs.Settings.{Settings, is_rdb_name}
 use Rattle.half_store.specs.declared.header.Layout.{Layout}
@@ -21,6 +22,7 @@ use Rattle.drda_node.specs.Asking.{AskedCore, asked_after, asked_of}
 use Rattle.drda_node.specs.Calls.{HasHistory}
 use Rattle.drda_node.specs.Machine.{Machine, at_start}
 use Rattle.drda_node.specs.Register.{core_in, machine}
+use Rattle.drda_node.specs.Serving as node
 use Rattle.drda_node.specs.Serving.{Runs}
 use Rattle.drda_node.specs.Stations.{RunsAlong, first_station}
 use Rattle.drda_node.specs.declared.node.Node.{Node}
@@ -132,3 +134,8 @@ RunsCore modelled life user password old input before given now = RunsOver life 
 
 abbrev pub RunsNode : {D : Type 0} {d : _} → Bool → (D → Life) → Node D d → Option (List ℕ) → Option (List ℕ) → D × Result RunEnd OpenError → Option (List ℕ) → Type 0
 RunsNode modelled life node input before given now = (end : RunEnd) × (given.1 ≡ Ok end) × GoesFrom modelled life (core_in node) (machine node) input before given.0 end now
+
+-- what had failed of both streams before and behind it: a run has a cause, and what is refused read nothing and wrote nothing
+abbrev pub TellsFaults : Result RunEnd OpenError → Counts → Counts → Type 0
+TellsFaults (Ok end) old new = node.TellsFaults end old new
+TellsFaults (Err error) old new = new ≡ old

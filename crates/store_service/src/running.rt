@@ -2,12 +2,14 @@
 
 ghost use Rattle.std.specs.Prelude.{◌≡◌, List, ℕ};
 ghost use Rattle.recovery.specs.Durable.{Durable};
-ghost use Rattle.store_service.specs.Running.{IsStore, RunsCore, RunsNode, RunsStore};
+ghost use Rattle.counted_streams.specs.Counts.{counts, sink_of, source_of};
+ghost use Rattle.store_service.specs.Running.{TellsFaults, IsStore, RunsCore, RunsNode, RunsStore};
 
+use counted_streams::{Reader, Ready, Writer};
 use drda_disk::Disk;
 use drda_node::laws::calls_are_histories;
 use drda_node::serial::machines_are_serial;
-use drda_node::{DurableCore, Node, Ready, RunEnd, Settings, SettingsError, open, run};
+use drda_node::{DurableCore, Node, RunEnd, Settings, SettingsError, open, run};
 use durable_core::OpenError;
 use recovery::openings::openings_begin_histories;
 use recovery::step_laws::openings_are_kept;
@@ -38,11 +40,12 @@ pub fn run_store<D: Disk + Drop, R: Ready, W: Write>(
     disk: D,
     user: &str,
     password: &str,
-    reader: &mut R,
-    writer: &mut W,
+    reader: &mut Reader<R>,
+    writer: &mut Writer<W>,
 ) -> (D, Result<RunEnd, OpenError>)
-    ensures { (name : List ℕ) (d : Durable) → IsStore D.is_modelled name d (D.life disk)
-        → RunsStore D.life D.syncs name d user.now password.now disk (R.remaining reader.old) (W.contents writer.old) result (W.contents writer.new) }
+    ensures runs { (name : List ℕ) (d : Durable) → IsStore D.is_modelled name d (D.life disk)
+        → RunsStore D.life D.syncs name d user.now password.now disk (R.remaining (source_of reader.old)) (W.contents (sink_of writer.old)) result (W.contents (sink_of writer.new)) }
+    ensures cause { TellsFaults result.1 (counts reader.old writer.old) (counts reader.new writer.new) }
 {
     openings_begin_histories();
     openings_are_kept();
@@ -64,10 +67,11 @@ pub fn run_core<D: Disk + Drop, R: Ready, W: Write>(
     core: DurableCore<D>,
     user: &str,
     password: &str,
-    reader: &mut R,
-    writer: &mut W,
+    reader: &mut Reader<R>,
+    writer: &mut Writer<W>,
 ) -> (D, Result<RunEnd, OpenError>)
-    ensures { RunsCore D.is_modelled D.life user.now password.now core (R.remaining reader.old) (W.contents writer.old) result (W.contents writer.new) }
+    ensures runs { RunsCore D.is_modelled D.life user.now password.now core (R.remaining (source_of reader.old)) (W.contents (sink_of writer.old)) result (W.contents (sink_of writer.new)) }
+    ensures cause { TellsFaults result.1 (counts reader.old writer.old) (counts reader.new writer.new) }
 {
     let settings = match Settings::new(alloc, user, password, core.name()) {
         Ok(settings) => settings,
@@ -84,10 +88,11 @@ pub fn run_core<D: Disk + Drop, R: Ready, W: Write>(
 fn run_node<D: Disk, R: Ready, W: Write>(
     alloc: Global,
     node: Node<D>,
-    reader: &mut R,
-    writer: &mut W,
+    reader: &mut Reader<R>,
+    writer: &mut Writer<W>,
 ) -> (D, Result<RunEnd, OpenError>)
-    ensures { RunsNode D.is_modelled D.life node (R.remaining reader.old) (W.contents writer.old) result (W.contents writer.new) }
+    ensures runs { RunsNode D.is_modelled D.life node (R.remaining (source_of reader.old)) (W.contents (sink_of writer.old)) result (W.contents (sink_of writer.new)) }
+    ensures cause { TellsFaults result.1 (counts reader.old writer.old) (counts reader.new writer.new) }
 {
     let mut node = node;
     let end = run(alloc, &mut node, reader, writer);

@@ -10,6 +10,7 @@ ghost use Rattle.store_service.specs.Running.{IsRefusal, IsSettledStore};
 ghost use Rattle.store_service.specs.Surviving.{Survives};
 
 use crate::running::run_store;
+use counted_streams::{Reader, Writer};
 use drda_disk::{FuseDisk, MemDisk};
 use drda_node::{DurableCore, RunEnd, open};
 use durable_core::{OpenError, PlainError};
@@ -36,10 +37,10 @@ pub fn survives(
     ensures ran { (name : List ℕ) (d : Durable) → IsSettledStore true name d (life_of disk) → IfErr result.0 (IsRefusal name) }
     ensures err { (name : List ℕ) (d : Durable) → IsSettledStore true name d (life_of disk) → IfErr result.1 (IsRefusal name) }
 {
-    let mut reader = input;
-    let mut written = Vec::new(alloc);
+    let mut reader = Reader::new(input);
+    let mut writer = Writer::new(Vec::new(alloc));
     let fuse = FuseDisk::new(disk, calls, false);
-    let (left, end) = run_store(alloc, fuse, user, password, &mut reader, &mut written);
+    let (left, end) = run_store(alloc, fuse, user, password, &mut reader, &mut writer);
     (end, tell(alloc, left.into_inner().after_crash(pick)))
 }
 

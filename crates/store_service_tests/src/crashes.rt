@@ -3,6 +3,7 @@
 use crate::inputs::{
     CREATE, CREATE_OTHER, ONE, ONE_OTHER, SIX_RECORDS, THREE, TWO, around_a_checkpoint, piece,
 };
+use counted_streams::{Reader, Writer};
 use drda_disk::FuseDisk;
 use std::alloc::Global;
 use std::test::Fail;
@@ -14,9 +15,9 @@ use test_nodes::fresh_store;
 // How many device calls an opening and a run over this input make.
 fn calls_of(alloc: Global, input: &[u8]) -> Option<u64> {
     let disk = FuseDisk::new(fresh_store(alloc)?, u64::MAX, false);
-    let mut reader = input;
-    let mut written = Vec::new(alloc);
-    let (disk, _end) = run_store(alloc, disk, "ana", "pw", &mut reader, &mut written);
+    let mut reader = Reader::new(input);
+    let mut writer = Writer::new(Vec::new(alloc));
+    let (disk, _end) = run_store(alloc, disk, "ana", "pw", &mut reader, &mut writer);
     Some(disk.calls())
 }
 

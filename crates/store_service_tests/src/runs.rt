@@ -1,6 +1,7 @@
 //! Runs over one store, one after another.
 
 use crate::inputs::{CREATE, ONE, TWO, piece};
+use counted_streams::{Reader, Writer};
 use drda_disk::MemDisk;
 use std::alloc::Global;
 use std::test::Fail;
@@ -32,9 +33,10 @@ fn run_once(
 ) -> Option<(MemDisk, bool)> {
     let input = piece(alloc, commands)?;
     let wanted = bytes_of(alloc, replies).ok()?;
-    let mut reader = input.as_slice();
-    let mut written = Vec::new(alloc);
-    let (disk, end) = run_store(alloc, disk, "ana", "pw", &mut reader, &mut written);
+    let mut reader = Reader::new(input.as_slice());
+    let mut writer = Writer::new(Vec::new(alloc));
+    let (disk, end) = run_store(alloc, disk, "ana", "pw", &mut reader, &mut writer);
+    let written = writer.into_inner();
     Some((disk, end == Ok(RunEnd::Ended) && written.ends_with(&wanted)))
 }
 
@@ -52,9 +54,10 @@ fn what_is_committed_is_there_for_the_next_run(rt: HostRuntime) -> Result<(), Fa
 #[test]
 fn a_disk_that_is_no_store_is_handed_back(rt: HostRuntime) -> Result<(), Fail> {
     let disk = MemDisk::new(rt.alloc(), 2_097_152)?;
-    let mut reader: &[u8] = &[];
-    let mut written = Vec::new(rt.alloc());
-    let (_disk, end) = run_store(rt.alloc(), disk, "ana", "pw", &mut reader, &mut written);
-    assert!(rt; end == Err(OpenError::NotAStore) && written.is_empty());
+    let nothing: &[u8] = &[];
+    let mut reader = Reader::new(nothing);
+    let mut writer = Writer::new(Vec::new(rt.alloc()));
+    let (_disk, end) = run_store(rt.alloc(), disk, "ana", "pw", &mut reader, &mut writer);
+    assert!(rt; end == Err(OpenError::NotAStore) && writer.into_inner().is_empty());
     Ok(())
 }

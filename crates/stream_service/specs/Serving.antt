@@ -1,8 +1,9 @@
 -- What serving a stream comes to: what stood in the input, what the writer held before and holds now, and how the
 -- conversation stood with who is asked, before and at its end. `asks` says which call, which answer and which
 -- state of who is asked belong together.
-use Rattle.std.specs.Prelude.{◌≡◌, ◌⊎◌, ℕ, List, [], ◌++◌, Option, Some, None, take}
+use Rattle.std.specs.Prelude.{◌≡◌, ◌⊎◌, ◌+◌, ℕ, List, [], ◌++◌, Option, Some, None, take}
 use Rattle.std.specs.Io.KnownBytes.{Appends}
+use Rattle.counted_streams.specs.Faults.{Counts, NoneFails, ReadingFails, WritingFails}
 use Rattle.core_calls.specs.Answer.{Answer}
 use Rattle.core_calls.specs.Call.{Call, lost}
 use Rattle.session_commands.specs.Settings.{Settings}
@@ -10,6 +11,21 @@ use Rattle.conversation.specs.Attended.{Attended}
 use Rattle.conversation.specs.Hearing.{Hears, IsShortReply}
 use Rattle.stream_service.specs.declared.serving.Served.{Served}
 use Rattle.stream_service.specs.declared.serving.Served.TheVariants.{Done, ReadFault, WriteFault, NoMemory}
+
+-- A failed read is told exactly where a read has failed, or 2^63 were not enough, and a failed write exactly where a write has failed.
+abbrev pub TellsFaults : Served → Counts → Counts → Type 0
+TellsFaults Done old new = NoneFails old new
+TellsFaults ReadFault old new = ReadingFails old new
+TellsFaults WriteFault old new = WritingFails old new
+TellsFaults NoMemory old new = NoneFails old new
+
+-- the same of a piece, for which nothing is read: how many writes had failed before and behind it
+abbrev pub CountsWriting : Option Served → ℕ → ℕ → Type 0
+CountsWriting None old new = new ≡ old
+CountsWriting (Some Done) old new = new ≡ old
+CountsWriting (Some ReadFault) old new = ⊥
+CountsWriting (Some WriteFault) old new = new ≡ old + 1
+CountsWriting (Some NoMemory) old new = new ≡ old
 
 module _ {A : Type 0} (asks : A → Call → Answer → A → Type 0) where
   -- whoever is asked is told that the conversation is lost, whatever is answered

@@ -10,6 +10,9 @@ pub trait Host {
         usize::MAX
     }
 
+    /// Bytes have come of a conversation that has not opened the database; they are heard once this returns.
+    fn came(&mut self) {}
+
     /// The conversation has come so far, and what it is answered is written once this returns. Before it has opened the database this is
     /// asked for each answer; then for as many as are written at once.
     fn look(&mut self, _access: Access) {}

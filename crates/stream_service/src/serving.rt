@@ -4,12 +4,14 @@ ghost use Rattle.std.specs.Prelude.{◌≡◌, IfSome};
 ghost use Rattle.conversation.specs.Held.{newly_held};
 ghost use Rattle.conversation.specs.Attended.{attended_by};
 ghost use Rattle.conversation.specs.Feeding.{IsBetweenCommands};
-ghost use Rattle.stream_service.specs.Serving.{AnswersPiece, Converses, Loses, Serves};
+ghost use Rattle.counted_streams.specs.Counts.{counts, sink_of, source_of, write_faults_of};
+ghost use Rattle.stream_service.specs.Serving.{AnswersPiece, Converses, CountsWriting, TellsFaults, Loses, Serves};
 
 use crate::host::Host;
 use command_kit::Ask;
-use conversation::{Access, Budget, Front, Heard, feed_some, write_whole};
+use conversation::{Access, Budget, Front, Heard, feed_some};
 use core_calls::CoreCall;
+use counted_streams::{Reader, Writer};
 use dss_frames::stays_read;
 use std::alloc::{AllocError, Global};
 use std::io::{Read, Write};
@@ -27,6 +29,9 @@ const KEPT: Budget = Budget {
     opened: 9_437_184,
     cursor_bytes: usize::MAX,
 };
+
+/// So many reads are made at most.
+const MOST_READS: u64 = 1 << 63;
 
 /// How the service of a stream ended.
 #[derive(Clone, Copy, Debug, PartialEq, Eq)]
@@ -49,8 +54,9 @@ pub enum Served {
 /// overwritten before it is given back.
 ///
 /// No more than 64 KiB are kept of a command before a database is opened, and then 9 MiB: one that goes on past that ends
-/// the service as refused memory does. `host` says how much open cursors may keep, and is shown how far the conversation has come
-/// before an answer is written: before a database is opened, before each single one.
+/// the service as refused memory does. `host` says how much open cursors may keep. Before a database is opened it is told of each read
+/// that brought bytes, and shown how far the conversation has come before each single answer is written; then before as many as are
+/// written at once.
 ///
 /// `Done` comes only where the conversation was answered all of the input. An asker that can't go on is
 /// answered for by AGNPRMRM, which closes the conversation, and so is `Done` too. What was heard was done,
@@ -59,15 +65,16 @@ pub enum Served {
 pub fn serve<A: Ask, R: Read, W: Write, H: Host>(
     alloc: Global,
     front: &mut Front,
-    reader: &mut R,
-    writer: &mut W,
+    reader: &mut Reader<R>,
+    writer: &mut Writer<W>,
     asker: &mut A,
     host: &mut H,
 ) -> Served
     requires { IsBetweenCommands front.old }
-    ensures serves { IfSome (R.remaining reader.old) (λ input. Serves A.asks front.old.settings (attended_by front.old asker.old) input (W.contents writer.old) result (W.contents writer.new) asker.new) }
+    ensures serves { IfSome (R.remaining (source_of reader.old)) (λ input. Serves A.asks front.old.settings (attended_by front.old asker.old) input (W.contents (sink_of writer.old)) result (W.contents (sink_of writer.new)) asker.new) }
     ensures lost { (before : A) × Loses A.asks before asker.new }
     ensures forgets { front.new ≡ newly_held front.old.settings }
+    ensures cause { TellsFaults result (counts reader.old writer.old) (counts reader.new writer.new) }
 {
     front.keep_within(Budget {
         cursor_bytes: host.cursor_bytes(),
@@ -83,26 +90,28 @@ pub fn serve<A: Ask, R: Read, W: Write, H: Host>(
 fn converse<A: Ask, R: Read, W: Write, H: Host>(
     alloc: Global,
     front: &mut Front,
-    reader: &mut R,
-    writer: &mut W,
+    reader: &mut Reader<R>,
+    writer: &mut Writer<W>,
     asker: &mut A,
     host: &mut H,
 ) -> Served
     requires { IsBetweenCommands front.old }
     ensures settings { front.new.settings ≡ front.old.settings }
-    ensures converses { IfSome (R.remaining reader.old) (λ input. Converses A.asks front.old.settings (attended_by front.old asker.old) input (W.contents writer.old) result (W.contents writer.new) (attended_by front.new asker.new)) }
+    ensures converses { IfSome (R.remaining (source_of reader.old)) (λ input. Converses A.asks front.old.settings (attended_by front.old asker.old) input (W.contents (sink_of writer.old)) result (W.contents (sink_of writer.new)) (attended_by front.new asker.new)) }
+    ensures cause { TellsFaults result (counts reader.old writer.old) (counts reader.new writer.new) }
 {
     stays_read();
     let Ok(mut buffer) = room_for_a_piece(alloc) else {
         return Served::NoMemory;
     };
     let mut replies = Vec::new(alloc);
-    'talking: for _ in 0..1u64 << 63 {
+    'talking: for _made in 0..MOST_READS {
         let count = match reader.read(&mut buffer) {
             Ok(0) => return Served::Done,
             Ok(count) => count,
             Err(_) => return Served::ReadFault,
         };
+        greet(front.access(), host);
         let ended = answer_piece(
             alloc,
             front,
@@ -129,7 +138,7 @@ fn answer_piece<A: Ask, W: Write, H: Host>(
     asker: &mut A,
     piece: &[u8],
     replies: &mut Vec<u8>,
-    writer: &mut W,
+    writer: &mut Writer<W>,
     host: &mut H,
 ) -> Option<Served>
     requires settled { IsBetweenCommands front.old }
@@ -137,7 +146,8 @@ fn answer_piece<A: Ask, W: Write, H: Host>(
     ensures settled { IsBetweenCommands front.new }
     ensures settings { front.new.settings ≡ front.old.settings }
     ensures empty { result ≡ None → replies.new.items ≡ [] }
-    ensures answers { AnswersPiece A.asks front.old.settings (attended_by front.old asker.old) piece.now (W.contents writer.old) result (W.contents writer.new) (attended_by front.new asker.new) }
+    ensures answers { AnswersPiece A.asks front.old.settings (attended_by front.old asker.old) piece.now (W.contents (sink_of writer.old)) result (W.contents (sink_of writer.new)) (attended_by front.new asker.new) }
+    ensures faults { CountsWriting result (write_faults_of writer.old) (write_faults_of writer.new) }
 {
     stays_read();
     let mut taken = 0;
@@ -146,7 +156,7 @@ fn answer_piece<A: Ask, W: Write, H: Host>(
         let part = feed_some(front, asker, &piece[taken..], most, replies);
         taken += part.taken;
         show(front.access(), replies, host);
-        let Ok(()) = write_whole(writer, replies) else {
+        let Ok(()) = writer.write_whole(replies) else {
             return Some(Served::WriteFault);
         };
         empty(alloc, replies);
@@ -167,6 +177,13 @@ ghost use Rattle.std.specs.Prelude.{◌≤◌, ◌++◌, [], None, IfOk, drop, l
 // So many bytes of answers are gathered before they are written. A conversation without a database is shown answer by answer.
 fn most_gathered(access: Access) -> usize {
     if access.is_opened { LONG } else { 0 }
+}
+
+// Tells the host that bytes have come, where no database is open.
+fn greet<H: Host>(access: Access, host: &mut H) {
+    if !access.is_opened {
+        host.came();
+    }
 }
 
 // Shows the host how far a conversation has come, where it is answered something.

@@ -3,6 +3,7 @@
 use crate::cores::{Core, serve_over};
 use crate::names::bytes_named;
 use crate::streams::{AT_ONCE, Giving, Manner, Taking};
+use counted_streams::{Reader, Writer};
 use std::alloc::{AllocError, Global};
 use stream_service::{Access, Host, Served};
 
@@ -12,6 +13,8 @@ pub struct Outcome {
     pub served: Option<Served>,
     /// How often there was something to read.
     pub reads: u32,
+    /// How often reading failed, and how often writing did.
+    pub failed: (u32, u32),
     /// How many bytes it was answered.
     pub size: usize,
     /// Whether these are a front of what it was to be answered.
@@ -65,23 +68,27 @@ pub fn heard(
     manner: Manner,
     cursor_bytes: usize,
 ) -> Outcome {
-    let mut reader = Giving {
+    let mut reader = Reader::new(Giving {
         bytes: input.get(..manner.coming).unwrap_or(input),
         manner,
         times: 0,
+        faults: 0,
         finds: false,
-    };
-    let mut writer = Taking {
+    });
+    let mut writer = Writer::new(Taking {
         bytes: Vec::new(alloc),
         manner,
+        faults: 0,
         longest: 0,
-    };
+    });
     let mut host = unseen(cursor_bytes);
     let served = serve_over(alloc, core, &mut reader, &mut writer, &mut host);
+    let (reader, writer) = (reader.into_inner(), writer.into_inner());
     let size = writer.bytes.len();
     Outcome {
         served,
         reads: reader.times,
+        failed: (reader.faults, writer.faults),
         size,
         is_wanted: wanted.get(..size) == Some(writer.bytes.as_slice()),
         is_clean: !reader.finds,
@@ -144,10 +151,19 @@ pub fn tell_served(
         out,
         "  {served:?}, {size} of {all} bytes; as wanted {is_wanted}, clean {is_clean}, short {is_short}"
     )?;
+    tell_failed(came.failed, out)?;
     if verb == "keeps" {
         tell_host(came.host, out)?;
     }
     Ok(())
+}
+
+// Tells how often reading and writing failed, where they did.
+fn tell_failed((reads, writes): (u32, u32), out: &mut String) -> Result<(), AllocError> {
+    if reads == 0 && writes == 0 {
+        return Ok(());
+    }
+    writeln!(out, "  failed: reads {reads}, writes {writes}")
 }
 
 fn tell_host(host: Seen, out: &mut String) -> Result<(), AllocError> {

@@ -5,6 +5,7 @@ ghost use Rattle.std.specs.Prelude.{⊤};
 use command_kit::Ask;
 use conversation::{Front, Settings};
 use core_calls::{Answer, CoreCall};
+use counted_streams::{Reader, Writer};
 use drda_disk::{Disk, FuseDisk, MemDisk};
 use dss_frames::stays_read;
 use durable_core::{DurableCore, open};
@@ -50,8 +51,8 @@ pub fn core_over(alloc: Global, calls: u64) -> Result<Core, AllocError> {
 pub fn serve_over<D: Disk, R: Read, W: Write, H: Host>(
     alloc: Global,
     core: &mut DurableCore<D>,
-    reader: &mut R,
-    writer: &mut W,
+    reader: &mut Reader<R>,
+    writer: &mut Writer<W>,
     host: &mut H,
 ) -> Option<Served> {
     stays_read();

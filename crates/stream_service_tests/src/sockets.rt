@@ -2,6 +2,7 @@
 
 use crate::cores::{Core, serve_over};
 use crate::names::bytes_named;
+use counted_streams::{Reader, Writer};
 use std::alloc::{AllocError, Global};
 use std::io::{Read, Write};
 use std::net::{Ipv4Addr, Net, OpenListener, OpenStream, Shutdown, SocketAddr, SocketAddrV4};
@@ -12,8 +13,9 @@ fn serve_one<L: OpenListener>(alloc: Global, core: &mut Core, listener: &L) -> O
 where
     L::Stream: Read + Write + OpenStream,
 {
-    let (mut reader, _) = listener.accept().ok()?;
-    let mut writer = reader.try_clone().ok()?;
+    let (stream, _) = listener.accept().ok()?;
+    let mut writer = Writer::new(stream.try_clone().ok()?);
+    let mut reader = Reader::new(stream);
     serve_over(alloc, core, &mut reader, &mut writer, &mut OpenHouse)
 }
 

@@ -26,12 +26,13 @@ pub const AT_ONCE: Manner = Manner {
     room: usize::MAX,
 };
 
-/// A stream that gives bytes, counts how often it gave some, and remembers whether a buffer held any before.
+/// A stream that gives bytes, counts how often it gave some and how often it failed, and remembers whether a buffer held any before.
 #[derive(Drop)]
 pub struct Giving<'a> {
     pub bytes: &'a [u8],
     pub manner: Manner,
     pub times: u32,
+    pub faults: u32,
     pub finds: bool,
 }
 
@@ -43,6 +44,7 @@ impl Read for Giving<'_> {
         if !self.bytes.is_empty() {
             self.times = self.times.saturating_add(1);
         } else if self.manner.fails {
+            self.faults = self.faults.saturating_add(1);
             return Err(io::Error::from(ErrorKind::Other));
         }
         let size = buffer.len().min(self.manner.given);
@@ -50,11 +52,12 @@ impl Read for Giving<'_> {
     }
 }
 
-/// A stream that takes bytes, and remembers the longest piece that it was handed.
+/// A stream that takes bytes, counts how often it failed, and remembers the longest piece that it was handed.
 #[derive(Drop)]
 pub struct Taking {
     pub bytes: Vec<u8>,
     pub manner: Manner,
+    pub faults: u32,
     pub longest: usize,
 }
 
@@ -62,6 +65,7 @@ impl Write for Taking {
     fn write(&mut self, bytes: &[u8]) -> io::Result<usize> {
         self.longest = self.longest.max(bytes.len());
         if self.bytes.len() >= self.manner.room {
+            self.faults = self.faults.saturating_add(1);
             return Err(io::Error::from(ErrorKind::Other));
         }
         let count = bytes.len().min(self.manner.taken);

@@ -3,7 +3,9 @@ use Rattle.std.specs.Prelude.{◌≡◌, ◌⊎◌, ℕ, Bool, IsTrue, List, len
 use Rattle.std.specs.Io.KnownBytes.{Appends}
 use Rattle.drda_disk.specs.Disk.{Life}
 use Rattle.recovery.specs.Durable.{Durable}
-use Rattle.recovery.specs.Journaled.{OnDisk}
+use Rattle.durable_core.specs.Gauging.{IsGauge}
+use Rattle.durable_core.specs.declared.gauge.Gauge.{Gauge}
+use Rattle.recovery.specs.Journaled.{OnDisk, shown_on}
 use Rattle.recovery.specs.Opens.{OpensTo}
 use Rattle.store_files.specs.Files.{FileCalls}
 use Rattle.store_files.specs.Opening.{IsOver, OpensStore}
@@ -17,11 +19,11 @@ module _ {D : Type 0} (modelled : Bool) (life : D → Life) where
   abbrev pub IsOfDoubts : D → List ℕ → Type 0
   IsOfDoubts disk text = (doubts : List Listed) × (text ≡ doubt_text doubts) × (IsTrue modelled → AreDoubts doubts (life disk).seen)
 
-  -- The name and the size of the store that a disk is, the bytes that it has left for records, and how many units are in
-  -- doubt.
+  -- The name and the size of the store that a disk is, how full it is, and how many units are in doubt.
   abbrev pub IsOfRoom : D → List ℕ → Type 0
   IsOfRoom disk text = (core : OnDisk D) × IsOver modelled life disk core × (doubts : List Listed)
-      × (text ≡ room_text core.name (length (life disk).seen) core.room (length doubts)) × (IsTrue modelled → AreDoubts doubts (life disk).seen)
+      × (gauge : Gauge) × (text ≡ room_text core.name (length (life disk).seen) gauge (length doubts)) × (gauge.room ≡ core.room)
+      × (IsTrue modelled → IsGauge (shown_on life core) gauge) × (IsTrue modelled → AreDoubts doubts (life disk).seen)
 
   -- a disk that opens to a state is whole
   abbrev pub IsOfCheck : D → List ℕ → Type 0

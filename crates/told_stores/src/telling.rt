@@ -28,7 +28,7 @@ pub fn list_doubts<F: StoreFiles, W: Write>(
     tell(&text, out)
 }
 
-/// Tells how much a store holds.
+/// Tells how much a store holds, and how much room it has.
 pub fn tell_room<F: StoreFiles, W: Write>(
     alloc: Global,
     files: &mut F,
@@ -41,7 +41,8 @@ pub fn tell_room<F: StoreFiles, W: Write>(
     checkpoints_are_known();
     openings_are_kept();
     let core = open_file(alloc, files, path)?;
-    let text = room_text(alloc, core)?;
+    let gauge = core.gauge();
+    let text = room_text(alloc, core, gauge)?;
     tell(&text, out)
 }
 

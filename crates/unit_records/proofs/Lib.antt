@@ -2,5 +2,4 @@ pub mod Listing
 pub mod Parts
 pub mod Bodies
 pub mod Lengths
-pub mod Gathering
 pub mod Turns

@@ -6,5 +6,5 @@ pub mod Laws
 pub mod Read
 pub mod RecordContents
 pub mod Due
-pub mod Together
 pub mod Phases
+pub mod Together

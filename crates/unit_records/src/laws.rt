@@ -1,9 +1,8 @@
 //! Laws of records: of their bytes, and of steps that are taken together. The functions do nothing: their contracts are the laws.
 
 ghost use Rattle.unit_records.specs.Laws.{OneReading, PartsStandOnce, WrittenIsRead};
-ghost use Rattle.unit_records.specs.Phases.{BranchesGoThrough};
 ghost use Rattle.unit_records.specs.Room.{DecisionsAreShort, DecisionsFit, DecisionsNeedNoRoom, HeuristicsFit};
-ghost use Rattle.unit_records.specs.Together.{CommitsGoTogether};
+ghost use Rattle.unit_records.specs.Together.{CallsGoTogether};
 
 use tables::laws::changes_have_their_bytes;
 
@@ -33,13 +32,8 @@ pub(crate) fn parts_stand_once()
     xa_calls::one_reading();
 }
 
-/// Conversations that commit one after another make the changes of all of their local units.
-pub fn commits_go_together()
-    ensures { CommitsGoTogether }
-{}
-
-/// Branches that go through a phase together, each asked for once: each call is answered XA_OK and makes its record due,
-/// and they come to the changes of all of them.
-pub fn branches_go_through()
-    ensures { BranchesGoThrough }
+/// Calls that are made together, each about another unit: each is answered that it was done and makes the record due that its
+/// unit gave before them all, and they come to the changes of all that commit.
+pub fn calls_go_together()
+    ensures { CallsGoTogether }
 {}

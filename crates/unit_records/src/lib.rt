@@ -3,6 +3,7 @@
 #![tactic(auto)]
 
 mod fronts;
+mod group_call;
 mod group_error;
 pub mod laws;
 mod length;
@@ -15,13 +16,14 @@ mod record_error;
 mod recorder;
 mod write;
 
+pub use group_call::{Asked, GroupCall};
 pub use group_error::GroupError;
 pub use length::{
     commit_length, decide_length, forget_length, held_for_decision, held_for_forgetting,
     held_in_doubt, prepare_length,
 };
 pub use memory::NoRecords;
-pub use phase::{BranchCall, Phase};
+pub use phase::Phase;
 pub use record::UnitRecord;
 pub use record_contents::RecordContents;
 pub use record_error::RecordError;

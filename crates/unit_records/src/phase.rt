@@ -1,22 +1,22 @@
-//! Branches that go through a phase of two-phase commit together.
+//! The phases of two-phase commit.
 
 ghost use Rattle.std.specs.Prelude.{◌≡◌, IfSome};
 ghost use Rattle.unit_records.specs.Phases.{phase_of, verb_of};
 
-use xa_calls::{Verb, Xid};
+use xa_calls::Verb;
 use xa_manager::Decision;
 
 /// A phase of two-phase commit (C193 section 2.3).
 #[derive(Clone, Copy, Debug, PartialEq, Eq)]
 pub enum Phase {
-    /// The first: branches are prepared.
+    /// The first: a branch is prepared.
     Prepare,
-    /// The second: branches in doubt are decided, all of them so.
+    /// The second: a branch in doubt is decided so.
     Decide(Decision),
 }
 
 impl Phase {
-    /// What is asked of each branch.
+    /// What is asked of the branch.
     pub fn verb(self) -> Verb
         ensures { result ≡ verb_of self }
     {
@@ -39,13 +39,4 @@ impl Phase {
             Verb::Start | Verb::Join | Verb::End(_) | Verb::CommitOnePhase | Verb::Forget => None,
         }
     }
-}
-
-/// That a conversation asks for a phase of a branch.
-#[derive(Clone, Copy, Debug)]
-pub struct BranchCall {
-    /// The conversation that asks.
-    pub conversation: u64,
-    /// The branch's XID.
-    pub xid: Xid,
 }

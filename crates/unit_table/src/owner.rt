@@ -17,7 +17,7 @@ pub enum Owner {
 
 impl Owner {
     /// Whether both are the same.
-    pub(crate) fn is(&self, other: &Owner) -> bool
+    pub fn is(&self, other: &Owner) -> bool
         ensures { result ≡ same_owner (plain_owner self.now) (plain_owner other.now) }
     {
         match (self, other) {

@@ -1,4 +1,4 @@
-use Rattle.std.proofs.Common.{◌≡◌, ℕ, ◌+◌, ◌-◌, ◌≤◌, List, ◌++◌, rules, arith, length, take, slice_range, sym, ap, ◌∙◌, subst, le_refl, drop_at, length-take-le, take_all}
+use Rattle.std.proofs.Common.{◌≡◌, ℕ, ◌+◌, ◌-◌, ◌≤◌, List, ◌++◌, rules, arith, length, take, slice_range, sym, ap, ◌∙◌, subst, le_refl, drop_at, length-take-le}
 use Rattle.std.proofs.lemmas.Slice.{take-put_mid_below}
 use Rattle.std.specs.Io.KnownBytes.{Consumes}
 use Rattle.std.proofs.KnownBytes.{Consumes-trans}
@@ -18,9 +18,6 @@ slice_range-put_mid a k n xs ys within fits =
     let after = post_of a k xs in
     ap (take ((a + n) - a)) (drop_at (take a xs) (ys ++ after) a (length-take-le a xs within)) ∙ ap (λ m. take m (ys ++ after)) same ∙ take-append-le n ys after fits
 
-pub returns-then-at-buffer : goal.returns-then-at-buffer
-returns-then-at-buffer g c = subst (Consumes _ _) (take_all c.reading.at c.reading.buffer c.if-at-buffer.true) c.reading.invariant.consumed
-
 pub reading-preserved : goal.reading-preserved
 reading-preserved g c =
     let from = c.reading.at in
@@ -32,4 +29,6 @@ reading-preserved g c =
       same_length = search rules;
       within = search rules;
       consumed = subst (Consumes _ _) (ap (λ l. take from c.reading.buffer ++ l) (sym part) ∙ joined) (Consumes-trans _ _ _ _ _ c.reading.invariant.consumed c.in-Ok.ensures.bytes.0);
+      made = search rules;
+      faults = c.in-Ok.ensures.faults ∙ c.reading.invariant.faults;
     }

@@ -1,4 +1,5 @@
 use Rattle.std.proofs.Common.{◌≡◌, ◌≤◌, ◌+◌, ◌-◌, ◌++◌, ℕ, length, take, drop, slice_index, ◌∙◌, ap, arith, rules, take_all, length-drop, le_of_eq}
+use Rattle.counted_streams.specs.Counts.{source_of}
 use Rattle.drda_node.specs.Reading.{size_of}
 use Rattle.conversation.proofs.Written.{take_front}
 use Rattle.drda_node.proofs.Recording.{received_ready, head_size}
@@ -19,5 +20,5 @@ returns-clause-takes g c =
     c.copy_from_slice.ensures.after ∙ c.in_ok-bytes.ensures.lookup.0.2 ∙ ap (λ (n : ℕ). take n (take (length shown - 6) (drop 6 shown))) none ∙ ap (take size) whole in
     let count : length part ≡ size = search rules in
     let fits : size_of head ≤ length (part ++ behind) = search rules in
-    received_ready (g.R.Read.remaining c.args.reader.now) (g.R.Read.remaining c.skip.new.self) head shown size (part ++ behind) within c.ready.ensures.front (search rules) c.in_ok-head.ensures c.number_in-size.ensures.spells fits
+    received_ready (g.R.Read.remaining (source_of c.args.reader.now)) (g.R.Read.remaining (source_of c.skip.new.self)) head shown size (part ++ behind) within c.ready.ensures.front (search rules) c.in_ok-head.ensures c.number_in-size.ensures.spells fits
     (ap (λ (n : ℕ). take n (part ++ behind)) is_size ∙ take_front size part behind count ∙ taken)

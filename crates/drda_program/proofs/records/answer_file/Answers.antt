@@ -1,4 +1,5 @@
 use Rattle.std.proofs.Common.{Err, inl, refl}
+use Rattle.counted_streams.specs.Counts.{source_of}
 use Rattle.command_line.specs.Job.{plain_login}
 use Rattle.store_service.proofs.Stores.{SerialLaws}
 use Rattle.store_files.proofs.Found.{opens_still}
@@ -15,7 +16,7 @@ returns-in-Ok g c =
       serial = c.machines_are_serial.ensures.serial;
     } in
     piped_file g.F.Disk.Disk.is_modelled g.F.Disk.Disk.life g.F.StoreFiles.calls c.openings_begin_histories.ensures.sound c.openings_are_kept.ensures laws g.F.Disk.Disk.syncs c.args.path.now (plain_login c.args.login) c.args.files.now _
-    (g.R.Read.remaining c.args.reader.now) _ _ c.answer_records.result c.in-Ok.core c.in-Ok.ensures c.answer_records.ensures
+    (g.R.Read.remaining (source_of c.args.reader.now)) _ _ c.answer_records.result c.in-Ok.core c.in-Ok.ensures c.answer_records.ensures
 
 pub returns-in-Err : goal.returns-in-Err
 returns-in-Err g c =

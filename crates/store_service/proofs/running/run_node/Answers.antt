@@ -2,8 +2,8 @@ use Rattle.std.proofs.Common.{refl, ap, ◌∙◌}
 use Rattle.drda_node.specs.Register.{core_in, machine}
 use Rattle.store_service.proofs.running.run_node.Goals as goal
 
-pub returns : goal.returns
-returns g c = (
+pub returns-clause-runs : goal.returns-clause-runs
+returns-clause-runs g c = (
   c.run-end.result,
   refl,
   record {

@@ -1,6 +1,7 @@
 use Rattle.std.proofs.Common.{◌≡◌, ◌+◌, ℕ, List, [], ◌++◌, length, take, drop, sym, ap, subst, ◌∙◌, refl, take-append-drop, arith}
 use Rattle.std.proofs.lemmas.List.{drop-drop, length-drop, nil_from_length, take_rest}
 use Rattle.std.specs.Io.KnownBytes.{Appends}
+use Rattle.counted_streams.specs.Counts.{sink_of}
 use Rattle.core_calls.specs.Answer.{Answer}
 use Rattle.core_calls.specs.Call.{Call}
 use Rattle.session_commands.specs.Settings.{Settings}
@@ -29,7 +30,8 @@ hearing-init g c = record {
   empty = c.requires.empty;
   settled = c.requires.settled;
   settings = refl;
-  talked = begins g.A.Ask.asks c.args.front.now c.args.asker.now c.args.piece.now (g.W.Write.contents c.args.writer.now) c.requires.settled;
+  talked = begins g.A.Ask.asks c.args.front.now c.args.asker.now c.args.piece.now (g.W.Write.contents (sink_of c.args.writer.now)) c.requires.settled;
+  faults = refl;
 }
 
 pub returns-in_default-clause-answers : goal.returns-in_default-clause-answers
@@ -46,9 +48,9 @@ returns-in_default-clause-answers g c =
     let left = drop taken piece in
     let left' = drop (taken + part.taken) piece in
     let out' = c.feed_some-part.new.out.items in
-    let w0 = g.W.Write.contents c.args.writer.now in
-    let w = g.W.Write.contents c.hearing.writer in
-    let w' = g.W.Write.contents c.write_whole.new.writer in
+    let w0 = g.W.Write.contents (sink_of c.args.writer.now) in
+    let w = g.W.Write.contents (sink_of c.hearing.writer) in
+    let w' = g.W.Write.contents (sink_of c.write_whole.new.self) in
     let more_fault = c.stays_read.ensures.fault in
     let split : left ≡ here ++ left' = cut taken part.taken piece in
     let hears : HearsPiece asks settings mid here [] part.heard last out' =
@@ -71,9 +73,9 @@ returns-then-taken-piece-clause-answers g c =
     let left = drop taken piece in
     let left' = drop (taken + part.taken) piece in
     let out' = c.feed_some-part.new.out.items in
-    let w0 = g.W.Write.contents c.args.writer.now in
-    let w = g.W.Write.contents c.hearing.writer in
-    let w' = g.W.Write.contents c.write_whole.new.writer in
+    let w0 = g.W.Write.contents (sink_of c.args.writer.now) in
+    let w = g.W.Write.contents (sink_of c.hearing.writer) in
+    let w' = g.W.Write.contents (sink_of c.write_whole.new.self) in
     let more_fault = c.stays_read.ensures.fault in
     let split : left ≡ here ++ left' = cut taken part.taken piece in
     let hears : HearsPiece asks settings mid here [] part.heard last out' =
@@ -98,9 +100,9 @@ hearing-preserved g c =
     let left = drop taken piece in
     let left' = drop (taken + part.taken) piece in
     let out' = c.feed_some-part.new.out.items in
-    let w0 = g.W.Write.contents c.args.writer.now in
-    let w = g.W.Write.contents c.hearing.writer in
-    let w' = g.W.Write.contents c.write_whole.new.writer in
+    let w0 = g.W.Write.contents (sink_of c.args.writer.now) in
+    let w = g.W.Write.contents (sink_of c.hearing.writer) in
+    let w' = g.W.Write.contents (sink_of c.write_whole.new.self) in
     let more_fault = c.stays_read.ensures.fault in
     let split : left ≡ here ++ left' = cut taken part.taken piece in
     let hears : HearsPiece asks settings mid here [] part.heard last out' =
@@ -113,6 +115,7 @@ hearing-preserved g c =
       settled = c.feed_some-part.ensures.settled;
       settings = c.feed_some-part.ensures.settings ∙ c.hearing.invariant.settings;
       talked = talked_more asks settings more_fault first mid last piece left here left' w0 w w' c.hearing.invariant.talked split (said_all asks settings mid last here out' w w' opened wrote);
+      faults = c.in-Ok.ensures.faults ∙ c.hearing.invariant.faults;
     }
 
 pub returns-in-Closed-clause-answers : goal.returns-in-Closed-clause-answers
@@ -129,9 +132,9 @@ returns-in-Closed-clause-answers g c =
     let left = drop taken piece in
     let left' = drop (taken + part.taken) piece in
     let out' = c.feed_some-part.new.out.items in
-    let w0 = g.W.Write.contents c.args.writer.now in
-    let w = g.W.Write.contents c.hearing.writer in
-    let w' = g.W.Write.contents c.write_whole.new.writer in
+    let w0 = g.W.Write.contents (sink_of c.args.writer.now) in
+    let w = g.W.Write.contents (sink_of c.hearing.writer) in
+    let w' = g.W.Write.contents (sink_of c.write_whole.new.self) in
     let more_fault = c.stays_read.ensures.fault in
     let split : left ≡ here ++ left' = cut taken part.taken piece in
     let hears : HearsPiece asks settings mid here [] part.heard last out' =
@@ -154,9 +157,9 @@ returns-in-NoMemory-clause-answers g c =
     let left = drop taken piece in
     let left' = drop (taken + part.taken) piece in
     let out' = c.feed_some-part.new.out.items in
-    let w0 = g.W.Write.contents c.args.writer.now in
-    let w = g.W.Write.contents c.hearing.writer in
-    let w' = g.W.Write.contents c.write_whole.new.writer in
+    let w0 = g.W.Write.contents (sink_of c.args.writer.now) in
+    let w = g.W.Write.contents (sink_of c.hearing.writer) in
+    let w' = g.W.Write.contents (sink_of c.write_whole.new.self) in
     let more_fault = c.stays_read.ensures.fault in
     let split : left ≡ here ++ left' = cut taken part.taken piece in
     let hears : HearsPiece asks settings mid here [] part.heard last out' =

@@ -14,7 +14,7 @@ returns g c =
     let core = c.in_ok-core.core in
     let doubts = listed_in core.state.branches in
     let bytes : c.deref.result.now ≡ string_bytes c.in_ok-text.text = search rules in
-    let text = bytes ∙ (c.in_ok-text.ensures ∙ ap (λ (seen : List ℕ). room_text core.name (length seen) core.room (length (in_doubt_xids core.state.branches))) there.2.stays.same) ∙ ap (room_text core.name (length (g.F.Disk.Disk.life there.0).seen) core.room) (sym (as_many core.state.branches (in_doubt_xids core.state.branches))) in
+    let text = bytes ∙ (c.in_ok-text.ensures ∙ ap (λ (seen : List ℕ). room_text core.name (length seen) c.gauge-gauge.result (length (in_doubt_xids core.state.branches))) there.2.stays.same) ∙ ap (room_text core.name (length (g.F.Disk.Disk.life there.0).seen) c.gauge-gauge.result) (sym (as_many core.state.branches (in_doubt_xids core.state.branches))) in
     told g.F.Disk.Disk.is_modelled g.F.Disk.Disk.life g.F.StoreFiles.calls (IsOfRoom g.F.Disk.Disk.is_modelled g.F.Disk.Disk.life) c.args.path.now c.args.files.now c.open_file.new.files there.0 there.1 c.deref.result.now _ _ c.tell.result
-    (core, there.2, doubts, text, λ modelled. are_doubts (g.F.Disk.Disk.life there.0).seen core doubts c.records_lead_to_sound_states.ensures c.checkpoints_are_known.ensures.stores c.openings_are_kept.ensures (there.2.stood modelled) refl)
+    (core, there.2, doubts, c.gauge-gauge.result, text, c.gauge-gauge.ensures.room, λ modelled. c.gauge-gauge.ensures.gauge modelled (there.2.stood modelled).is.going, λ modelled. are_doubts (g.F.Disk.Disk.life there.0).seen core doubts c.records_lead_to_sound_states.ensures c.checkpoints_are_known.ensures.stores c.openings_are_kept.ensures (there.2.stood modelled) refl)
     c.tell.ensures.told c.tell.ensures.cause

@@ -2,7 +2,7 @@ use Rattle.std.proofs.Common.{◌≡◌, List, Option, Some, refl, slice_get, sy
 use Rattle.core_history.specs.declared.count.Count.{Count}
 use Rattle.core_history.specs.declared.wish.Wish.{Wish}
 use Rattle.core_history.specs.Books.{Told}
-use Rattle.core_history.specs.Gathered.{AreAlike, AreApart, AreMembers, Gathers, MakesTogether}
+use Rattle.core_history.specs.Gathered.{AreApart, AreMembers, Gathers, MakesTogether}
 use Rattle.core_history.proofs.Opening.{gathers_on, still}
 use Rattle.core_history.proofs.book.Book.make_together.Goals as goal
 
@@ -22,10 +22,9 @@ invariant_of-self-2 g c =
     let members = c.deref-2.result.now in
     let f = c.in-Some.has_failed in
     let same : members ≡ c.choose.new.self.members.items = c.deref-2.ensures.value ∙ c.ask_together.ensures.members in
-    let together = subst (λ (ws : List Wish). MakesTogether g.D.Disk.life inside.core c.args.phase ws f c.ask_together.new.core) (sym same) c.in-Some.ensures.some in
-    let alike = subst (λ (ws : List Wish). AreAlike c.args.phase ws) (sym same) (c.choose.ensures.alike c.if-not-choose.false) in
+    let together = subst (λ (ws : List Wish). MakesTogether g.D.Disk.life inside.core ws f c.ask_together.new.core) (sym same) c.in-Some.ensures.some in
     gathers_on g.D.Disk.is_modelled g.D.Disk.life c.answers_are_serial.ensures.lead_on inside.core inside.opening.value c.ask_together.new.core inside.calls.listed c.list_all.new.calls.listed inside.places.items c.list_all.new.places.items inside.left.items
-    c.list_all.new.left.items inside.next c.args.phase members f alike c.list_all.ensures.calls c.list_all.ensures.places_stay c.list_all.ensures.left_stay (c.list_all.ensures.counted inside.next) (c.list_all.ensures.are_left inside.next) c.list_all.ensures.failures
+    c.list_all.new.left.items inside.next members f c.list_all.ensures.calls c.list_all.ensures.places_stay c.list_all.ensures.left_stay (c.list_all.ensures.counted inside.next) (c.list_all.ensures.are_left inside.next) c.list_all.ensures.failures
     c.calls_go_on.ensures c.self.invariant together c.ask_together.ensures.journaled
 
 pub returns-clause-gathers : goal.returns-clause-gathers
@@ -39,15 +38,14 @@ returns-clause-gathers g c =
     let new : Told g.row.D.Denot =
     record { core = c.ask_together.new.core; opening = inside.opening.value; calls = c.list_all.new.calls.listed; places = c.list_all.new.places.items; left = c.list_all.new.left.items; next = inside.next } in
     inr
-    (subst (λ (b : Told g.row.D.Denot). Gathers {D = g.row.D.Denot} g.D.Disk.life c.args.phase b c.args.wishes.now new) c.self.view_is
+    (subst (λ (b : Told g.row.D.Denot). Gathers {D = g.row.D.Denot} g.D.Disk.life b c.args.wishes.now new) c.self.view_is
     (record {
       members = members;
       each = subst (λ (ws : List Wish). AreMembers inside.places.items c.args.wishes.now ws) (sym same)
           (subst (λ (ps : List (Option Count)). AreMembers ps c.args.wishes.now c.choose.new.self.members.items) c.deref.ensures.value (c.choose.ensures.members chosen));
       apart = subst (λ (ws : List Wish). AreApart ws) (sym same) (c.choose.ensures.apart chosen);
-      alike = subst (λ (ws : List Wish). AreAlike c.args.phase ws) (sym same) (c.choose.ensures.alike chosen);
       has_failed = f;
-      core = subst (λ (ws : List Wish). MakesTogether g.D.Disk.life inside.core c.args.phase ws f c.ask_together.new.core) (sym same) c.in-Some.ensures.some;
+      core = subst (λ (ws : List Wish). MakesTogether g.D.Disk.life inside.core ws f c.ask_together.new.core) (sym same) c.in-Some.ensures.some;
       calls = c.list_all.ensures.calls;
       places = c.list_all.ensures.places;
       left = c.list_all.ensures.left;

@@ -21,12 +21,12 @@ use Rattle.core_history.specs.Wishes.{listed_wish}
 use Rattle.core_history.specs.declared.calls.CallList.{CallList}
 use Rattle.core_history.specs.contracts.calls.CallList.{the_row as R}
 use Rattle.core_history.specs.contracts.calls.CallList.note_wish as f
-use Rattle.core_history.specs.contracts.wish.Wished as wished
+use Rattle.unit_records.specs.contracts.group_call.Asked as asked
 use Rattle.core_history.proofs.calls.CallList.note_wish.Statement.{statement}
 use Rattle.core_history.proofs.calls.CallList.note_wish.Code as code
 
 abbrev stayed : Stays f.ended.signature.params f.ended.kept
-stayed = (stay_ref (0 ∷ []) tt (plain (λ _. R)), (stay_none (λ _. u64) yes, (stay_none_ref (1 ∷ []) tt (plain (λ _. wished.the_row)) yes, (stay_none (λ _. bool) yes, tt))))
+stayed = (stay_ref (0 ∷ []) tt (plain (λ _. R)), (stay_none (λ _. u64) yes, (stay_none_ref (1 ∷ []) tt (plain (λ _. asked.the_row)) yes, (stay_none (λ _. bool) yes, tt))))
 
 pub note_wish_spec : {M : Type 1} → statement M
 note_wish_spec 𝓤 𝓛 𝓜 𝓡 wired =
@@ -35,18 +35,18 @@ note_wish_spec 𝓤 𝓛 𝓜 𝓡 wired =
       Goes-ref 𝓛 2 0 tt (plain (λ _. R)),
       (
         Goes-none 𝓛 2 (λ _. u64) yes (λ κs x w. refl),
-        (Goes-none_ref 𝓛 2 (1 ∷ []) tt (plain (λ _. wished.the_row)) yes, (Goes-none 𝓛 2 (λ _. bool) yes (λ κs x w. refl), tt)),
+        (Goes-none_ref 𝓛 2 (1 ∷ []) tt (plain (λ _. asked.the_row)) yes, (Goes-none 𝓛 2 (λ _. bool) yes (λ κs x w. refl), tt)),
       ),
     )
     f.Key.name code.function (code.unfolded 𝓤 𝓛.H 𝓜 𝓡 wired)
     (λ κs. (mut_vals, (uint_vals w64, (shr_vals, (bool_vals, tt)))))
-    (λ κs. (mut_Tells (named 0) κs.0 R, (uint_Tells w64, (shr_Tells (named 1) κs.1.0 wished.the_row, (bool_Tells, tt)))))
+    (λ κs. (mut_Tells (named 0) κs.0 R, (uint_Tells w64, (shr_Tells (named 1) κs.1.0 asked.the_row, (bool_Tells, tt)))))
     (λ κs qs bounds a _ are.
     let b = a.0.ref_ptr.0 in let o = a.0.ref_ptr.1 in let h = a.0.now in let vs = mut_vals a.0 in
     let more : AnsweredCall = listed_wish a.1.0 a.1.1.0.now a.1.1.1.0 in
     let h' : CallList = record h { listed = h.listed ++ more ∷ [] } in
     let y : W.Ghost = ((κs, qs, bounds, a, (vs, (uint_vals w64 a.1.0, (shr_vals a.1.1.0, (bool_vals a.1.1.1.0, tt))))), tt) in
-    let rest = owns (u64 ∷ ShrRef (named 1) κs.1.0 wished.the_row ∷ bool ∷ []) a.1 y.0.4.1 in
+    let rest = owns (u64 ∷ ShrRef (named 1) κs.1.0 asked.the_row ∷ bool ∷ []) a.1 y.0.4.1 in
     let tokens = ‵ (flft κs.1.0 qs.1.0) ⊛ ‵ ftrue in
     qed 𝓛 (((‵ (flft κs.0 qs.0) ⊛ tokens) ⊛ ‵ ((MutRef (named 0) κs.0 R).own_val a.0 vs) ⊛ ‵ rest) ∷ ‵ ftrue ∷ []) ∵
     split ! $ split ! $ move ! (2 ∷ []) $ split ! $ keep ! (0 ∷ 2 ∷ 3 ∷ 1 ∷ []) $

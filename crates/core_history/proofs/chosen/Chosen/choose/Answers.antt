@@ -12,6 +12,5 @@ loop-wish-preserved g c =
     record {
       members = all.members chosen wishes i (slice_get_read wishes (length wishes) i c.wish-item.result refl c.loop-wish-test.true c.wish-item.is) kept.members;
       apart = all.apart chosen kept.apart;
-      alike = all.alike chosen kept.alike;
       few = all.few chosen kept.few;
     }

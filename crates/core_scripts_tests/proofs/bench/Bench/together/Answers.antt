@@ -2,4 +2,4 @@
 use Rattle.core_scripts_tests.proofs.bench.Bench.together.Goals as goal
 
 pub invariant_of-self : goal.invariant_of-self
-invariant_of-self c = c.commit_together.ensures.pages.inside 0 c.self.invariant
+invariant_of-self c = c.make_together.ensures.pages.inside 0 c.self.invariant

@@ -23,14 +23,14 @@ serving-preserved-in-Ok g c =
     let made = c.in-Ok.ensures.ok in
     served_there _ _ _ _ c.serving.threads.items c.captures.streams.now c.serving.streams c.next-in-serving.new.self c.in-Some-welcome.pass c.in-Some-next.reader c.in-Some-next.writer c.serving.invariant given c.in-Some-welcome.ensures.some c.place-place.result c.place-place.ensures c.join_at.ensures.kept c.put_at.new.threads.items
     c.in-Ok.thread (c.put_at.ensures ∙ ap (λ ts. slice_set ts c.place-place.result (Some c.in-Ok.thread)) c.join_at.ensures.emptied)
-    (kept_so (IsAttended g.D.Disk.is_modelled g.D.Disk.life g.B.Origin.is g.S.Reader.Read.remaining g.S.Writer.Write.contents) _ _ _ _ _ _ _ _ (ap (λ p. p.settings.value) made ∙ c.new-attendance.ensures.settings) (ap (λ p. p.pass.value) made ∙ c.new-attendance.ensures.pass) (ap (λ p. p.reader.value) made ∙ c.new-attendance.ensures.reader) (ap (λ p. p.writer.value) made ∙ c.new-attendance.ensures.writer))
+    (λ kept. record { leave = c.in-Some-welcome.ensures.given; attended = kept_so (IsAttended g.D.Disk.is_modelled g.D.Disk.life g.B.Origin.is g.S.Reader.Read.remaining g.S.Writer.Write.contents) _ _ _ _ _ _ _ _ (ap (λ p. p.settings.value) made ∙ c.new-attendance.ensures.settings) (ap (λ p. p.pass.value) made ∙ c.new-attendance.ensures.pass) (ap (λ p. p.reader.value) made ∙ c.new-attendance.ensures.reader) (ap (λ p. p.writer.value) made ∙ c.new-attendance.ensures.writer) kept })
 
 pub serving-preserved : goal.serving-preserved
 serving-preserved g c =
     let given : g.S.Streams.gives c.serving.streams (Some (c.in-Some-next.reader, c.in-Some-next.writer)) c.next-in-serving.new.self = search rules in
     let attended : IsAttended g.D.Disk.is_modelled g.D.Disk.life g.B.Origin.is g.S.Reader.Read.remaining g.S.Writer.Write.contents c.captures.hall.now.settings.now c.in-Some-welcome.pass c.in-Some-next.reader c.in-Some-next.writer = (c.spawn_with-in-Err.result, search rules) in
     served_here _ _ _ _ c.serving.threads.items c.captures.streams.now c.serving.streams c.next-in-serving.new.self c.in-Some-welcome.pass c.in-Some-next.reader c.in-Some-next.writer c.serving.invariant given c.in-Some-welcome.ensures.some c.place-place.result c.place-place.ensures c.join_at.ensures.kept c.join_at.new.threads.items
-    c.join_at.ensures.emptied attended
+    c.join_at.ensures.emptied (record { leave = c.in-Some-welcome.ensures.given; attended = attended })
 
 pub returns : goal.returns
 returns g c = elim c.match-next.branch [

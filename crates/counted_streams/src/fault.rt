@@ -1,0 +1,5 @@
+//! A call of a stream that failed.
+
+/// A call of a stream has failed.
+#[derive(Clone, Copy, Debug, PartialEq, Eq)]
+pub struct StreamFault;

@@ -1,0 +1,7 @@
+mod Moved
+mod Grown
+mod Written
+mod Copied
+mod Laid
+mod Finished
+mod Filed

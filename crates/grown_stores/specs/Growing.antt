@@ -1,0 +1,67 @@
+-- A store that is moved into a larger disk.
+use Rattle.std.specs.Prelude.{◌≡◌, ◌⊎◌, ◌<◌, ◌≤◌, ℕ, ◌+◌, ◌^◌, Bool, IsTrue, List, length, codes, Option, Some, Result, Ok, Err}
+use Rattle.std.specs.Io.KnownBytes.{Appends}
+use Rattle.drda_words.specs.Place.{part}
+use Rattle.drda_disk.specs.Disk.{LeavesOnly, Life, Only, Stays}
+use Rattle.half_store.specs.Active.{Store, active_of, not_a_store}
+use Rattle.half_store.specs.Layout.{half_len, offset_of}
+use Rattle.half_store.specs.declared.layout.Half.TheVariants.{First}
+use Rattle.recovery.specs.Durable.{Durable}
+use Rattle.recovery.specs.Opens.{OpensTo}
+use Rattle.store_files.specs.Files.{FileCalls}
+use Rattle.store_files.specs.Opening.{LeavesNone, OpensStore}
+use Rattle.store_files.specs.declared.fault.Fault.{Fault}
+use Rattle.store_files.specs.declared.fault.Fault.TheVariants.{Device, NoRoom}
+
+-- The first half of the new image is its active one, of the same name and with the same header, and begins with all bytes of the half
+-- that is the active one of the old image.
+pub record IsGrown (old new : List ℕ) : Type 0 where
+  pub store : Store
+  pub was : active_of old ≡ Ok store
+  pub is : active_of new ≡ Ok (record store { half = First })
+  pub wider : half_len (length old) ≤ half_len (length new)
+  pub inside : 8192 + half_len (length new) ≤ length new
+  pub small : length new < 2 ^ 64
+  pub same : part new 8192 (half_len (length old)) ≡ part old (offset_of (half_len (length old)) store.half) (half_len (length old))
+
+-- what an image opens to, the other one opens to
+abbrev pub OpensAlike : List ℕ → List ℕ → Type 0
+OpensAlike old image = (name : List ℕ) (d : Durable) → OpensTo name d old → OpensTo name d image
+
+-- what a crash leaves of a disk while a store is moved there
+abbrev pub IsNoneOrGrown : List ℕ → List ℕ → Type 0
+IsNoneOrGrown old image = (active_of image ≡ Err not_a_store) ⊎ IsGrown old image
+
+-- ---- the law
+
+-- a store that was moved opens to the same name, tables and units in doubt
+abbrev pub GrownStoresOpen : Type 0
+GrownStoresOpen = (old new : List ℕ) → IsGrown old new → OpensAlike old new
+
+-- ---- in files
+
+module _ {F D : Type 0} (modelled : Bool) (life : D → Life) (calls : FileCalls F D) where
+  -- The store of a path was moved into a new file of this size, which opens to all that it opens to; a crash on the way left no store there,
+  -- or the whole of it. The old file was not written.
+  pub record IsGrownFile (files : F) (path new : List ℕ) (size : ℕ) (files' : F) : Type 0 where
+    pub disk : D
+    pub mid : F
+    pub opened : calls.opens files path (Some disk) mid
+    pub old : D
+    pub unwritten : Stays (life disk) (life old)
+    pub made : D
+    pub created : calls.creates mid new size (Some made) files'
+    pub left : D
+    pub only : IsTrue modelled → Only (life left)
+    pub alike : IsTrue modelled → OpensAlike (life disk).seen (life left).seen
+    pub moments : IsTrue modelled → LeavesOnly (life made) (life left) (λ image. (active_of image ≡ Err not_a_store) ⊎ OpensAlike (life disk).seen image)
+
+  -- the store of the path was not opened, or has no room in so many bytes, or no file is left
+  abbrev pub IsNotGrown : F → List ℕ → List ℕ → ℕ → Fault → F → Type 0
+  IsNotGrown files path new size fault files' = OpensStore modelled life calls files path (Err fault) files'
+      ⊎ ((disk : D) × (mid : F) × calls.opens files path (Some disk) mid × (((fault ≡ NoRoom) × (files' ≡ mid)) ⊎ LeavesNone modelled life calls mid new size files'))
+
+  -- and that is said
+  abbrev pub GrowsFile : List ℕ → List ℕ → ℕ → F → Option (List ℕ) → Result (Unit {0}) Fault → F → Option (List ℕ) → Type 0
+  GrowsFile path new size files before (Ok done) files' now = IsGrownFile files path new size files' × Appends before now (codes "grown\n")
+  GrowsFile path new size files before (Err fault) files' now = (IsNotGrown files path new size fault files' × (now ≡ before)) ⊎ ((fault ≡ Device) × IsGrownFile files path new size files')

@@ -1,0 +1,48 @@
+//! What a store that is moved has beside its half.
+
+ghost use Rattle.std.specs.Prelude.{◌≡◌, ◌+◌, ◌<◌, ◌≤◌, ◌∷◌, [], IfOk, IsTrue, OnOk, false, length};
+ghost use Rattle.drda_disk.specs.Disk.{CountsFault, LeavesOnly, Only, overlaid};
+ghost use Rattle.half_store.specs.Active.{is_marked};
+ghost use Rattle.half_store.specs.Fresh.{IsUnmarked, head_bytes};
+
+use drda_disk::{Disk, DiskFault};
+use std::alloc::{AllocError, Global};
+
+/// The bytes of the mark, which stands in front of the head.
+const MARK_BYTES: usize = 8;
+
+/// A gate that is closed.
+const CLOSED: [u8; 1] = [0];
+
+/// The layout of the head.
+const LAYOUT: u32 = 1;
+
+/// The head of a store of this size and name, behind its mark.
+pub(crate) fn head_of(alloc: Global, size: usize, name: &str) -> Result<Vec<u8>, AllocError>
+    requires { length name.now ≤ 18 }
+    ensures { IfOk result (λ bytes. bytes.items ≡ head_bytes size name.now) }
+{
+    let mut bytes = Vec::new(alloc);
+    bytes.extend_from_slice(&LAYOUT.to_be_bytes())?;
+    bytes.extend_from_slice(&(size as u64).to_be_bytes())?;
+    bytes.push(name.len() as u8)?;
+    bytes.extend_from_slice(name.as_bytes())?;
+    Ok(bytes)
+}
+
+/// Writes a head behind its mark, and the closed gate of the second half, and syncs.
+pub(crate) fn lay<D: Disk>(disk: &mut D, head: &[u8], second_at: usize) -> Result<(), DiskFault>
+    requires front { 8 + length head.now ≤ 8192 }
+    requires behind { 8192 ≤ second_at }
+    requires inside { second_at < length (D.life disk.old).seen }
+    ensures unmarked { IsUnmarked (D.life disk.old) → LeavesOnly (D.life disk.old) (D.life disk.new) (λ c. is_marked c ≡ false) }
+    ensures written { OnOk result (IsTrue D.is_modelled → (D.life disk.new).seen ≡ overlaid (overlaid (D.life disk.old).seen 8 head.now) second_at (0 ∷ [])) }
+    ensures durable { OnOk result (Only (D.life disk.new)) }
+    ensures len { length (D.life disk.new).seen ≡ length (D.life disk.old).seen }
+    ensures cause { CountsFault result (D.life disk.old).faults (D.life disk.new).faults }
+{
+    disk.write_at(MARK_BYTES, head)?;
+    disk.write_at(second_at, &CLOSED)?;
+    disk.sync()?;
+    Ok(())
+}

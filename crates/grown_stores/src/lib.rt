@@ -1,0 +1,13 @@
+//! Stores that are moved into larger files.
+#![tactic(auto)]
+
+mod copying;
+mod files;
+mod growing;
+mod laws;
+mod laying;
+mod moving;
+
+pub use files::grow_file;
+pub use growing::grow;
+pub use laws::grown_stores_open;

@@ -1,5 +1,0 @@
-use Rattle.rdb_core.proofs.Pages.{pages_both}
-use Rattle.rdb_core.proofs.together.commit_all.Goals as goal
-
-pub returns-clause-pages : goal.returns-clause-pages
-returns-clause-pages g c = pages_both c.args.store.now.tables c.make_room.new.store.tables c.finish_all.new.store.tables c.make_room.ensures.pages c.finish_all.ensures.pages
