@@ -115,7 +115,7 @@ impl<'a, D: Disk, B: Origin<D>, R: Wait + Clock, G: Gate> Asker<'a, D, B, R, G> 
                 false
             }
         };
-        let mut guard = shared.held.lock(self.rt);
+        let mut guard = shared.take(self.rt);
         if !leads {
             waiting.go(self.rt);
         }
