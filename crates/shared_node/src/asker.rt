@@ -166,7 +166,9 @@ impl<'a, D: Disk, B: Origin<D>, R: Wait + Clock, G: Gate> Ask for Asker<'a, D, B
     ghost asks = { DeskAsks D.is_modelled D.life B.is };
 
     fn ask(&mut self, call: &CoreCall<'_, '_, '_>) -> Answer {
-        self.gate.turn(self.pass.conversation(), self.asked);
+        if self.hold.is_none() {
+            self.gate.turn(self.pass.conversation(), self.asked);
+        }
         self.asked = self.asked.wrapping_add(1);
         let wished = wished_by(self.has_run, call);
         self.has_run = has_run_behind(self.has_run, call);
