@@ -1,4 +1,4 @@
-use Rattle.std.proofs.Common.{subst}
+use Rattle.std.proofs.Common.{◌∙◌, subst, sym}
 use Rattle.core_calls.specs.Call.{call_of}
 use Rattle.core_calls.specs.Answer.{answer_of}
 use Rattle.core_history.specs.declared.pass.Pass.{Pass}
@@ -8,6 +8,7 @@ use Rattle.shared_node.proofs.asker.AskerAsk.ask.Goals as goal
 
 pub returns : goal.returns
 returns g c =
-    subst (λ (p : Pass). DeskAsks {D = g.row.D.Denot} g.D.Disk.is_modelled g.D.Disk.life g.B.Origin.is p (call_of c.args.call.now) (answer_of c.told.result) c.take_turn-acted.new.pass) c.self.view_is
-    (asked {D = g.row.D.Denot} g.D.Disk.is_modelled g.D.Disk.life g.B.Origin.is c.deref_mut-held.result.now c.take_turn-acted.new.self c.self.inside.pass c.take_turn-acted.new.pass (call_of c.args.call.now) c.take_turn-acted.result (answer_of c.told.result)
-    c.told.ensures c.take_turn-acted.ensures.shows c.take_turn-acted.ensures.origin c.take_turn-acted.ensures.was_kept c.take_turn-acted.ensures.is_kept c.take_turn-acted.ensures.journaled c.take_turn-acted.ensures.turn)
+    let asks : Pass → Pass → Type 0 = λ before after. DeskAsks {D = g.row.D.Denot} g.D.Disk.is_modelled g.D.Disk.life g.B.Origin.is before (call_of c.args.call.now) (answer_of c.told.result) after in
+    subst (λ (p : Pass). asks p c.leave.new.self) (c.self-2.view_is ∙ (c.come-hold.ensures ∙ c.self.view_is)) (subst (λ (p : Pass). asks c.self-2.inside.pass p) (sym c.leave.ensures)
+    (asked {D = g.row.D.Denot} g.D.Disk.is_modelled g.D.Disk.life g.B.Origin.is c.deref_mut-held.result.now c.take_turn-acted.new.self c.self-2.inside.pass c.take_turn-acted.new.pass (call_of c.args.call.now) c.take_turn-acted.result (answer_of c.told.result)
+    c.told.ensures c.take_turn-acted.ensures.shows c.take_turn-acted.ensures.origin c.take_turn-acted.ensures.was_kept c.take_turn-acted.ensures.is_kept c.take_turn-acted.ensures.journaled c.take_turn-acted.ensures.turn))
