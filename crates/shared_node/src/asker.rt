@@ -1,6 +1,7 @@
 //! Who asks the book for one conversation.
 
 use crate::gate::Gate;
+use crate::keeping::Share;
 use crate::origin::Origin;
 use crate::shared::Shared;
 use crate::turn::{Begun, Turn, full_of, time};
@@ -25,6 +26,7 @@ pub(crate) struct Asker<'a, D: Disk, B: Origin<D>, R: Wait + Clock, G: Gate> {
     has_run: bool,
     waited: u64,
     held: u64,
+    share: Share,
 }
 
 impl<'a, D: Disk, B: Origin<D>, R: Wait + Clock, G: Gate> Model for Asker<'a, D, B, R, G> {
@@ -42,12 +44,13 @@ impl<'a, D: Disk, B: Origin<D>, R: Wait + Clock, G: Gate> Model for Asker<'a, D,
 impl<'a, D: Disk, B: Origin<D>, R: Wait + Clock, G: Gate> Asker<'a, D, B, R, G> {
     ghost use Rattle.std.specs.Prelude.{◌≡◌};
 
-    /// No call was made with the pass.
+    /// No call was made with the pass. The cursors of its conversation keep no more than so many bytes of rows.
     pub(crate) fn new(
         rt: &'a R,
         shared: &'a Shared<D, B>,
         gate: &'a G,
         pass: Pass,
+        cursor_bytes: usize,
     ) -> Asker<'a, D, B, R, G>
         ensures { result ≡ pass }
     {
@@ -60,6 +63,7 @@ impl<'a, D: Disk, B: Origin<D>, R: Wait + Clock, G: Gate> Asker<'a, D, B, R, G> 
             has_run: false,
             waited: 0,
             held: 0,
+            share: Share::new(cursor_bytes),
         }
     }
 
@@ -68,10 +72,11 @@ impl<'a, D: Disk, B: Origin<D>, R: Wait + Clock, G: Gate> Asker<'a, D, B, R, G> 
         (self.waited, self.held)
     }
 
-    /// The pass.
+    /// The pass. Nothing is kept any more.
     pub(crate) fn into_pass(self) -> Pass
         ensures { result ≡ self.entry }
     {
+        self.share.end(&self.shared.keeping);
         self.pass
     }
 
@@ -108,7 +113,10 @@ impl<'a, D: Disk, B: Origin<D>, R: Wait + Clock, G: Gate> Ask for Asker<'a, D, B
                 waiting.go(self.rt);
             }
             let begun = Begun::new(self.rt, came, &held.book);
+            let reserved = self.share.reserve(&self.shared.keeping, call);
+            held.bound_rows(reserved);
             let acted = held.take_turn(self.rt, waiting, &mut self.pass, call, &wished);
+            self.share.settle(&self.shared.keeping, reserved, &acted);
             let full = full_of(&acted, &held.book);
             (acted, begun.end(self.rt, &held.book), full)
         };
@@ -120,6 +128,16 @@ impl<'a, D: Disk, B: Origin<D>, R: Wait + Clock, G: Gate> Ask for Asker<'a, D, B
         let turn = Turn { full, ..turn };
         self.gate.after(self.pass.conversation(), &turn);
         told(acted)
+    }
+
+    fn keep(&mut self, bytes: usize) -> bool {
+        let keeping = &self.shared.keeping;
+        if self.share.set(keeping, bytes) {
+            return true;
+        }
+        // What is left may be reserved for a query, but not under the lock.
+        let _guard = self.shared.held.lock(self.rt);
+        self.share.set(keeping, bytes)
     }
 }
 

@@ -9,5 +9,5 @@ use Rattle.shared_node.proofs.asker.AskerAsk.ask.Goals as goal
 pub returns : goal.returns
 returns g c =
     subst (λ (p : Pass). DeskAsks {D = g.row.D.Denot} g.D.Disk.is_modelled g.D.Disk.life g.B.Origin.is p (call_of c.args.call.now) (answer_of c.told.result) c.take_turn-acted.new.pass) c.self.view_is
-    (asked {D = g.row.D.Denot} g.D.Disk.is_modelled g.D.Disk.life g.B.Origin.is c.deref_mut-held.result.now c.take_turn-acted.new.self c.self.inside.pass c.take_turn-acted.new.pass (call_of c.args.call.now) c.take_turn-acted.result (answer_of c.told.result)
+    (asked {D = g.row.D.Denot} g.D.Disk.is_modelled g.D.Disk.life g.B.Origin.is c.bound_rows.new.self c.take_turn-acted.new.self c.self.inside.pass c.take_turn-acted.new.pass (call_of c.args.call.now) c.take_turn-acted.result (answer_of c.told.result)
     c.told.ensures c.take_turn-acted.ensures.shows c.take_turn-acted.ensures.origin c.take_turn-acted.ensures.was_kept c.take_turn-acted.ensures.is_kept c.take_turn-acted.ensures.journaled c.take_turn-acted.ensures.turn)
