@@ -19,14 +19,12 @@ pub trait Ask {
     /// asked next, and soon.
     fn expect_end(&mut self, _is_expected: bool)
         ensures { self.new ≡ self.old }
-    {
-    }
+    {}
 
     /// The conversation waits for its stream now: whoever is asked keeps nothing that others wait for.
     fn rest(&mut self)
         ensures { self.new ≡ self.old }
-    {
-    }
+    {}
 
     /// So many bytes the conversation keeps from now on, of commands that came and of rows for its cursors; false where all that are
     /// served would keep more than they may: then it is to go on as where memory is refused.
