@@ -6,7 +6,9 @@ ghost use Rattle.conversation.specs.declared.fed.Heard.TheVariants as heard_as;
 ghost use Rattle.conversation.specs.Attended.{attended_by};
 ghost use Rattle.conversation.specs.Feeding.{IsBetweenCommands, Takes, state_for};
 ghost use Rattle.conversation.specs.Pieces.{HearsPiece};
+ghost use Rattle.conversation.specs.Steps.{Steps};
 
+use crate::ahead::begins_with_end;
 use crate::fed::{Fed, FedState, Heard, HeardSome};
 use crate::front::{Front, Need};
 use command_kit::Ask;
@@ -127,11 +129,21 @@ fn hand_on<A: Ask>(front: &mut Front, asker: &mut A, piece: &[u8], out: &mut Vec
 {
     stays_read();
     let taken = front.feed_command(piece);
-    let need = front.next(asker, out);
+    let need = next_before(front, asker, &piece[taken..], out);
     Fed {
         taken,
         state: state_of(need, taken > 0 || piece.is_empty()),
     }
+}
+
+// Does the next command, where all of it has come, and these bytes have come behind it.
+#[inline(always)]
+fn next_before<A: Ask>(front: &mut Front, asker: &mut A, behind: &[u8], out: &mut Vec<u8>) -> Need
+    requires room { vec_len out.old + 21 ≤ vec_capacity out.old }
+    ensures { Steps A.asks front.old asker.old out.old.items result front.new asker.new out.new.items }
+{
+    asker.expect_end(begins_with_end(behind));
+    front.next(asker, out)
 }
 
 // How it stands behind one step, by whether bytes were taken or there were none.

@@ -5,6 +5,7 @@
 #![tactic(auto)]
 
 mod access;
+mod ahead;
 mod budget;
 mod chain;
 mod database;

@@ -1,6 +1,7 @@
 //! Who asks the book for one conversation.
 
 use crate::gate::Gate;
+use crate::held::Held;
 use crate::keeping::Share;
 use crate::origin::Origin;
 use crate::shared::Shared;
@@ -10,12 +11,24 @@ use core_calls::{Answer, CoreCall};
 use core_history::{Acted, Pass, has_run_behind, wished_by};
 use drda_disk::Disk;
 use std::marker::Model;
-use std::sync::Wait;
+use std::sync::{MutexGuard, Wait};
 use std::time::Clock;
 use unit_records::Asked;
 
+/// The lock is kept for the end of a unit that comes behind a query with so many rows at most, since their reply is written
+/// meanwhile.
+const FEW_ROWS: usize = 16;
+
+/// The lock, which is held, and what its turn was like when it began.
+#[derive(Drop)]
+struct Hold<'a, D: Disk, B: Origin<D>> {
+    guard: MutexGuard<'a, Held<D, B>>,
+    begun: Begun,
+}
+
 /// Who asks the book for one conversation, under the lock, call by call: its turn comes outside of the lock, the call and
-/// what it lists are one step inside of it. To clauses it is its pass.
+/// what it lists are one step inside of it. Behind a short query the lock is kept for the end of its unit, where that has come
+/// already and waits for nobody. To clauses it is its pass.
 #[derive(Drop)]
 pub(crate) struct Asker<'a, D: Disk, B: Origin<D>, R: Wait + Clock, G: Gate> {
     rt: &'a R,
@@ -24,6 +37,10 @@ pub(crate) struct Asker<'a, D: Disk, B: Origin<D>, R: Wait + Clock, G: Gate> {
     pass: Pass,
     asked: u64,
     has_run: bool,
+    expects_end: bool,
+    // What was kept of the last turn, and whether a command was judged since that asked nothing.
+    hold: Option<Hold<'a, D, B>>,
+    is_idle: bool,
     waited: u64,
     held: u64,
     share: Share,
@@ -61,6 +78,9 @@ impl<'a, D: Disk, B: Origin<D>, R: Wait + Clock, G: Gate> Asker<'a, D, B, R, G> 
             pass,
             asked: 0,
             has_run: false,
+            expects_end: false,
+            hold: None,
+            is_idle: false,
             waited: 0,
             held: 0,
             share: Share::new(cursor_bytes),
@@ -80,16 +100,68 @@ impl<'a, D: Disk, B: Origin<D>, R: Wait + Clock, G: Gate> Asker<'a, D, B, R, G> 
         self.pass
     }
 
-    // The conversation comes to the lock: whether it leads a group.
-    fn come(&self, wished: &Option<Asked>) -> bool {
-        let waiting = &self.shared.waiting;
-        match wished {
+    // The lock for a call, and whether it leads a group. What waits with others must not hold it meanwhile.
+    fn come(&mut self, wished: &Option<Asked>) -> (Hold<'a, D, B>, bool)
+        ensures { self.new ≡ self.old }
+    {
+        if wished.is_some() {
+            self.give_back();
+        }
+        if let Some(hold) = self.hold.take() {
+            return (hold, false);
+        }
+        let came = time(self.rt);
+        let shared = self.shared;
+        let waiting = &shared.waiting;
+        let leads = match wished {
             Some(wished) => waiting.wish(self.rt, self.pass.wish(*wished)),
             None => {
                 waiting.come();
                 false
             }
+        };
+        let mut guard = shared.take(self.rt);
+        if !leads {
+            waiting.go(self.rt);
         }
+        let held = &mut *guard;
+        let begun = Begun::new(self.rt, came, &held.book);
+        (Hold { guard, begun }, leads)
+    }
+
+    // Behind a call that was answered so the lock is kept, or given back.
+    fn leave(&mut self, hold: Hold<'a, D, B>, acted: &Acted, leads: bool)
+        ensures { self.new ≡ self.old }
+    {
+        if self.expects_end && !self.has_run && are_few_rows(acted) {
+            self.hold = Some(hold);
+            self.is_idle = false;
+            return;
+        }
+        let turn = end(self.rt, hold, Some(acted));
+        if leads {
+            self.shared.waiting.end(self.rt, turn.held);
+        }
+        self.tell(&turn);
+    }
+
+    // The lock is given back, where it was kept.
+    fn give_back(&mut self)
+        ensures { self.new ≡ self.old }
+    {
+        if let Some(hold) = self.hold.take() {
+            let turn = end(self.rt, hold, None);
+            self.tell(&turn);
+        }
+    }
+
+    // A turn has ended.
+    fn tell(&mut self, turn: &Turn)
+        ensures { self.new ≡ self.old }
+    {
+        self.waited = self.waited.max(turn.waited);
+        self.held = self.held.max(turn.held);
+        self.gate.after(self.pass.conversation(), turn);
     }
 }
 
@@ -99,45 +171,71 @@ impl<'a, D: Disk, B: Origin<D>, R: Wait + Clock, G: Gate> Ask for Asker<'a, D, B
     ghost asks = { DeskAsks D.is_modelled D.life B.is };
 
     fn ask(&mut self, call: &CoreCall<'_, '_, '_>) -> Answer {
-        self.gate.turn(self.pass.conversation(), self.asked);
+        if self.hold.is_none() {
+            self.gate.turn(self.pass.conversation(), self.asked);
+        }
         self.asked = self.asked.wrapping_add(1);
         let wished = wished_by(self.has_run, call);
         self.has_run = has_run_behind(self.has_run, call);
-        let came = time(self.rt);
-        let leads = self.come(&wished);
-        let (acted, turn, full) = {
-            let mut guard = self.shared.held.lock(self.rt);
-            let held = &mut *guard;
-            let waiting = &self.shared.waiting;
-            if !leads {
-                waiting.go(self.rt);
-            }
-            let begun = Begun::new(self.rt, came, &held.book);
-            let reserved = self.share.reserve(&self.shared.keeping, call);
-            held.bound_rows(reserved);
-            let acted = held.take_turn(self.rt, waiting, &mut self.pass, call, &wished);
-            self.share.settle(&self.shared.keeping, reserved, &acted);
-            let full = full_of(&acted, &held.book);
-            (acted, begun.end(self.rt, &held.book), full)
-        };
-        if leads {
-            self.shared.waiting.end(self.rt, turn.held);
-        }
-        self.waited = self.waited.max(turn.waited);
-        self.held = self.held.max(turn.held);
-        let turn = Turn { full, ..turn };
-        self.gate.after(self.pass.conversation(), &turn);
+        let (mut hold, leads) = self.come(&wished);
+        let held = &mut *hold.guard;
+        let waiting = &self.shared.waiting;
+        let reserved = self.share.reserve(&self.shared.keeping, call);
+        held.bound_rows(reserved);
+        let acted = held.take_turn(self.rt, waiting, &mut self.pass, call, &wished);
+        self.share.settle(&self.shared.keeping, reserved, &acted);
+        self.leave(hold, &acted, leads);
         told(acted)
     }
 
+    fn expect_end(&mut self, is_expected: bool) {
+        if self.is_idle {
+            self.give_back();
+        }
+        self.is_idle = self.hold.is_some();
+        self.expects_end = is_expected;
+    }
+
+    fn rest(&mut self) {
+        self.give_back();
+        self.expects_end = false;
+    }
+
     fn keep(&mut self, bytes: usize) -> bool {
-        let keeping = &self.shared.keeping;
-        if self.share.set(keeping, bytes) {
+        let shared = self.shared;
+        if self.share.set(&shared.keeping, bytes) {
             return true;
         }
+        if self.hold.is_some() {
+            return false;
+        }
         // What is left may be reserved for a query, but not under the lock.
-        let _guard = self.shared.held.lock(self.rt);
-        self.share.set(keeping, bytes)
+        let _guard = shared.take(self.rt);
+        self.share.set(&shared.keeping, bytes)
+    }
+}
+
+// The lock is given back: what the turn was like, at the end of which this was answered, if it ends behind a call.
+fn end<'a, D: Disk, B: Origin<D>, R: Wait + Clock>(
+    rt: &R,
+    hold: Hold<'a, D, B>,
+    acted: Option<&Acted>,
+) -> Turn {
+    let Hold { mut guard, begun } = hold;
+    let held = &mut *guard;
+    let full = match acted {
+        Some(acted) => full_of(acted, &held.book),
+        None => None,
+    };
+    let turn = begun.end(rt, &held.book);
+    Turn { full, ..turn }
+}
+
+// Whether few rows were answered.
+fn are_few_rows(acted: &Acted) -> bool {
+    match acted {
+        Acted::Answered(Answer::Rows(rows)) => rows.len() <= FEW_ROWS,
+        _ => false,
     }
 }
 

@@ -2,7 +2,7 @@
 
 use crate::turn::Turn;
 
-/// Who may go on; asked outside of the lock.
+/// Who may go on; asked outside of the lock, and so of no call for which the lock was kept.
 pub trait Gate {
     /// The n-th call of a conversation, from 0 on, is about to be made. Returns when it may be.
     fn turn(&self, conversation: u64, n: u64);

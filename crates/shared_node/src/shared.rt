@@ -9,8 +9,15 @@ use core_history::{Book, PLACES, Pass};
 use drda_disk::Disk;
 use durable_core::DurableCore;
 use std::alloc::Global;
-use std::sync::{Mutex, Wait};
+use std::hint::spin_loop;
+use std::sync::{Mutex, MutexGuard, Wait};
 use std::time::Clock;
+
+/// So often the lock is looked for before it is slept for: a turn at it is shorter than a sleep, but for those with a sync.
+const LOOKS: u32 = 40;
+
+/// So long is between two looks, in pauses of the processor.
+const PAUSES: u32 = 10;
 
 /// A book under the one lock, to be shared by the threads of its conversations. Which book a call found under the
 /// lock can't be said outside of it, where other threads have made calls before and after it; but over which core it was
@@ -49,6 +56,17 @@ impl<D: Disk, B: Origin<D>> Shared<D, B> {
             waiting,
             keeping: Keeping::new(all_bytes),
         })
+    }
+
+    /// The lock, for a call.
+    pub(crate) fn take<R: Wait>(&self, rt: &R) -> MutexGuard<'_, Held<D, B>> {
+        for _ in 0..LOOKS {
+            if let Some(guard) = self.held.try_lock() {
+                return guard;
+            }
+            pause();
+        }
+        self.held.lock(rt)
     }
 
     /// Leave for one conversation more; None where 64 have it, or no number is left.
@@ -96,5 +114,12 @@ impl<D: Disk, B: Origin<D>> Shared<D, B> {
             return Ok(book);
         }
         Err(book)
+    }
+}
+
+// Lets the processor rest between two looks.
+fn pause() {
+    for _ in 0..PAUSES {
+        spin_loop();
     }
 }
