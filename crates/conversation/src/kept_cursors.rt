@@ -1,6 +1,6 @@
 //! How much the open cursors of a conversation keep.
 
-use crate::row_bytes::row_bytes;
+use crate::measure::row_bytes;
 use command_kit::Statements;
 use drda_commands::{Accepted, Command};
 use std::alloc::{AllocError, Global};
