@@ -45,7 +45,8 @@ impl KeptCursors {
         if !self.is_opening {
             return Ok(());
         }
-        if self.bytes(statements) >= self.most {
+        self.forget_ended(statements);
+        if self.bytes() >= self.most {
             return Err(AllocError);
         }
         self.section.clear();
@@ -68,13 +69,11 @@ impl KeptCursors {
         }
     }
 
-    /// The bytes that the open ones keep.
-    pub(crate) fn bytes(&self, statements: &Statements) -> usize {
+    /// The bytes that those keep which have not been forgotten.
+    pub(crate) fn bytes(&self) -> usize {
         let mut sum = 0usize;
         for kept in self.cursors.as_slice() {
-            if is_open(statements, &kept.section) {
-                sum = sum.saturating_add(kept.bytes);
-            }
+            sum = sum.saturating_add(kept.bytes);
         }
         sum
     }

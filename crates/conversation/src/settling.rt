@@ -33,6 +33,6 @@ fn tell<A: Ask>(state: &mut State, asker: &mut A)
     let is_query = state.cursors.is_opening;
     state.cursors.is_opening = false;
     state.cursors.forget_ended(&state.statements);
-    let rows = state.cursors.bytes(&state.statements);
+    let rows = state.cursors.bytes();
     state.told.end(asker, rows, is_query);
 }
