@@ -1,7 +1,7 @@
 -- The grammar of the words, by those of `clap`.
 --   drdad init PATH --size N --rdb NAME
 --   drdad pipe [PATH] [--rdb NAME] [--user U:P] [--user-file FILE]
---   drdad serve PATH --port N [--user U:P] [--user-file FILE] [--count N] [--idle N] [--login N] [--cursor-bytes N] [--log] [--end-when-failed]
+--   drdad serve PATH --port N [--user U:P] [--user-file FILE] [--count N] [--idle N] [--login N] [--cursor-bytes N] [--all-bytes N] [--log] [--end-when-failed]
 --   drdad indoubt PATH
 --   drdad decide PATH XID DECISION
 --   drdad decide PATH FORMAT GLOBAL BRANCH DECISION
@@ -52,8 +52,12 @@ pipe = with_rule (with_rule (with_rule (with_rule (new_app (codes "pipe")) (word
 abbrev pub identified : App
 identified = with_rule (with_rule (with_rule (with_rule (new_app (codes "serve")) (needed_word (codes "path"))) (needed_option (codes "port"))) (option_rule (codes "user"))) (option_rule (codes "user-file"))
 
+-- with how many conversations are served, and what they are held to
+abbrev pub bounded : App
+bounded = with_rule (with_rule (with_rule (with_rule (with_rule identified (option_rule (codes "count"))) (option_rule (codes "idle"))) (default_option (codes "login") (codes "30"))) (default_option (codes "cursor-bytes") (codes "536870912"))) (default_option (codes "all-bytes") (codes "1073741824"))
+
 abbrev pub serve : App
-serve = with_rule (with_rule (with_rule (with_rule (with_rule (with_rule identified (option_rule (codes "count"))) (option_rule (codes "idle"))) (default_option (codes "login") (codes "30"))) (default_option (codes "cursor-bytes") (codes "67108864"))) (flag_rule (codes "log"))) (flag_rule (codes "end-when-failed"))
+serve = with_rule (with_rule bounded (flag_rule (codes "log"))) (flag_rule (codes "end-when-failed"))
 
 abbrev pub in_doubt : App
 in_doubt = with_rule (new_app (codes "indoubt")) (needed_word (codes "path"))

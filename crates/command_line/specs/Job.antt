@@ -117,18 +117,18 @@ abbrev pub is_given : Option Text → Bool
 is_given None = false
 is_given (Some text) = bytes_eq text (codes "true")
 
--- the seconds until the database is opened, and the bytes that are kept for cursors
-abbrev pub limits_with : Option ℕ → Option ℕ → Option Limits
-limits_with (Some login) (Some cursor_bytes) = Some (record { login = login; cursor_bytes = cursor_bytes })
-limits_with login cursor_bytes = None
+-- the seconds until the database is opened, the bytes that are kept for cursors, and those that are kept for all
+abbrev pub limits_with : Option ℕ → Option ℕ → Option ℕ → Option Limits
+limits_with (Some login) (Some cursor_bytes) (Some all_bytes) = Some (record { login = login; cursor_bytes = cursor_bytes; all_bytes = all_bytes })
+limits_with login cursor_bytes all_bytes = None
 
-abbrev pub limits_by : Option Text → Option Text → Option Limits
-limits_by (Some login) (Some cursor_bytes) = limits_with (seconds_in login) (number_in cursor_bytes)
-limits_by login cursor_bytes = None
+abbrev pub limits_by : Option Text → Option Text → Option Text → Option Limits
+limits_by (Some login) (Some cursor_bytes) (Some all_bytes) = limits_with (seconds_in login) (number_in cursor_bytes) (number_in all_bytes)
+limits_by login cursor_bytes all_bytes = None
 
 abbrev pub options_with : Option (Option ℕ) → Option (Option ℕ) → Option Limits → Bool → Bool → Option ServeOptions
 options_with (Some count) (Some idle) (Some limits) is_logged ends_when_failed =
-    Some (record { count = count; idle = idle; login = limits.login; cursor_bytes = limits.cursor_bytes; is_logged = is_logged; ends_when_failed = ends_when_failed })
+    Some (record { count = count; idle = idle; login = limits.login; cursor_bytes = limits.cursor_bytes; all_bytes = limits.all_bytes; is_logged = is_logged; ends_when_failed = ends_when_failed })
 options_with count idle limits is_logged ends_when_failed = None
 
 abbrev pub options_by : Option Text → Option Text → Option Limits → Option Text → Option Text → Option ServeOptions
@@ -188,7 +188,7 @@ abbrev pub said_to : Text → List Row → Option Job
 said_to name rows =
     if bytes_eq name (codes "init") then init_by (value rows (codes "path")) (value rows (codes "size")) (value rows (codes "rdb"))
     else (if bytes_eq name (codes "pipe") then pipe_by (value rows (codes "path")) (value rows (codes "rdb")) (value rows (codes "user")) (value rows (codes "user-file"))
-    else (if bytes_eq name (codes "serve") then serve_by (value rows (codes "path")) (value rows (codes "port")) (value rows (codes "user")) (value rows (codes "user-file")) (options_by (value rows (codes "count")) (value rows (codes "idle")) (limits_by (value rows (codes "login")) (value rows (codes "cursor-bytes"))) (value rows (codes "log")) (value rows (codes "end-when-failed")))
+    else (if bytes_eq name (codes "serve") then serve_by (value rows (codes "path")) (value rows (codes "port")) (value rows (codes "user")) (value rows (codes "user-file")) (options_by (value rows (codes "count")) (value rows (codes "idle")) (limits_by (value rows (codes "login")) (value rows (codes "cursor-bytes")) (value rows (codes "all-bytes"))) (value rows (codes "log")) (value rows (codes "end-when-failed")))
     else (if bytes_eq name (codes "indoubt") then in_doubt_by (value rows (codes "path"))
     else (if bytes_eq name (codes "decide") then decide_by (value rows (codes "path")) (value rows (codes "xid")) (value rows (codes "decision")) (value rows (codes "branch")) (value rows (codes "last"))
     else (if bytes_eq name (codes "room") then room_by (value rows (codes "path"))

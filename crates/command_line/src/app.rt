@@ -70,7 +70,7 @@ static PIPE: [Word<'static>; 4] = [
     USER_FILE,
 ];
 
-static SERVE: [Word<'static>; 10] = [
+static SERVE: [Word<'static>; 11] = [
     STORE,
     Word {
         id: "port",
@@ -96,8 +96,13 @@ static SERVE: [Word<'static>; 10] = [
     },
     Word {
         id: "cursor-bytes",
-        kind: Kind::OptionOr("N", "67108864"),
-        help: "Opens no further cursor of a connection whose cursors keep so many bytes of rows",
+        kind: Kind::OptionOr("N", "536870912"),
+        help: "Keeps so many bytes of rows for the cursors of a connection: a query that wants more is refused",
+    },
+    Word {
+        id: "all-bytes",
+        kind: Kind::OptionOr("N", "1073741824"),
+        help: "Keeps so many bytes of commands and of rows for all connections together: what wants more is refused",
     },
     Word {
         id: "log",

@@ -89,6 +89,11 @@ fn tell_of_limits(given: &ArgMatches<'_>, said: &mut String) {
             return tell_value(said, "cursor-bytes", bytes, COUNT_WANTED);
         }
     }
+    if let Some(bytes) = given.get_str("all-bytes") {
+        if number_in(bytes).is_none() {
+            return tell_value(said, "all-bytes", bytes, COUNT_WANTED);
+        }
+    }
     tell_of_login(given, said);
 }
 

@@ -30,8 +30,10 @@ pub struct ServeOptions {
     pub idle: Option<u32>,
     /// `--login N`: within how many seconds of its coming a client must have opened the database, 1 to 4,294,967; 30 where it is not said.
     pub login: u32,
-    /// `--cursor-bytes N`: with so many bytes of rows kept for its cursors a client opens no further one; 67,108,864 where it is not said.
+    /// `--cursor-bytes N`: so many bytes of rows are kept for the cursors of a client; 536,870,912 where it is not said.
     pub cursor_bytes: u64,
+    /// `--all-bytes N`: so many bytes are kept of commands and of rows for all clients together; 1,073,741,824 where it is not said.
+    pub all_bytes: u64,
     /// `--log`: whether it is told on standard error what becomes of them.
     pub is_logged: bool,
     /// `--end-when-failed`: whether serving ends once the device has failed.
@@ -56,7 +58,7 @@ pub enum Job<'a> {
         login: LoginSource<'a>,
     },
     /// `serve PATH --port N --user U:P [--count N] [--idle N] [--login N]
-    /// [--cursor-bytes N] [--log] [--end-when-failed]`, or with `--user-file FILE`:
+    /// [--cursor-bytes N] [--all-bytes N] [--log] [--end-when-failed]`, or with `--user-file FILE`:
     /// conversations over sockets.
     Serve {
         path: &'a str,

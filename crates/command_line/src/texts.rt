@@ -78,26 +78,34 @@ pub(crate) fn options_by(
         idle,
         login: limits.login,
         cursor_bytes: limits.cursor_bytes,
+        all_bytes: limits.all_bytes,
         is_logged: is_given(log),
         ends_when_failed: is_given(end_when_failed),
     })
 }
 
-/// What a client is held to.
+/// What clients are held to.
 #[derive(Clone, Copy)]
 pub(crate) struct Limits {
     pub(crate) login: u32,
     pub(crate) cursor_bytes: u64,
+    pub(crate) all_bytes: u64,
 }
 
-pub(crate) fn limits_by(login: Option<&str>, cursor_bytes: Option<&str>) -> Option<Limits>
-    ensures { result ≡ spec.limits_by (option_map (λ t. t.now) login.entry) (option_map (λ t. t.now) cursor_bytes.entry) }
+pub(crate) fn limits_by(
+    login: Option<&str>,
+    cursor_bytes: Option<&str>,
+    all_bytes: Option<&str>,
+) -> Option<Limits>
+    ensures { result ≡ spec.limits_by (option_map (λ t. t.now) login.entry) (option_map (λ t. t.now) cursor_bytes.entry) (option_map (λ t. t.now) all_bytes.entry) }
 {
     let login = seconds_in(login?)?;
     let cursor_bytes = number_in(cursor_bytes?)?;
+    let all_bytes = number_in(all_bytes?)?;
     Some(Limits {
         login,
         cursor_bytes,
+        all_bytes,
     })
 }
 

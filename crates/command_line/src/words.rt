@@ -132,7 +132,7 @@ fn pipe_in<'a>(given: &ArgMatches<'a>) -> Option<Job<'a>>
 }
 
 fn serve_in<'a>(given: &ArgMatches<'a>) -> Option<Job<'a>>
-    ensures { option_map spec.plain_job result ≡ spec.serve_by (spec.value (rows_of (found_of given.now)) (codes "path")) (spec.value (rows_of (found_of given.now)) (codes "port")) (spec.value (rows_of (found_of given.now)) (codes "user")) (spec.value (rows_of (found_of given.now)) (codes "user-file")) (spec.options_by (spec.value (rows_of (found_of given.now)) (codes "count")) (spec.value (rows_of (found_of given.now)) (codes "idle")) (spec.limits_by (spec.value (rows_of (found_of given.now)) (codes "login")) (spec.value (rows_of (found_of given.now)) (codes "cursor-bytes"))) (spec.value (rows_of (found_of given.now)) (codes "log")) (spec.value (rows_of (found_of given.now)) (codes "end-when-failed"))) }
+    ensures { option_map spec.plain_job result ≡ spec.serve_by (spec.value (rows_of (found_of given.now)) (codes "path")) (spec.value (rows_of (found_of given.now)) (codes "port")) (spec.value (rows_of (found_of given.now)) (codes "user")) (spec.value (rows_of (found_of given.now)) (codes "user-file")) (spec.options_by (spec.value (rows_of (found_of given.now)) (codes "count")) (spec.value (rows_of (found_of given.now)) (codes "idle")) (spec.limits_by (spec.value (rows_of (found_of given.now)) (codes "login")) (spec.value (rows_of (found_of given.now)) (codes "cursor-bytes")) (spec.value (rows_of (found_of given.now)) (codes "all-bytes"))) (spec.value (rows_of (found_of given.now)) (codes "log")) (spec.value (rows_of (found_of given.now)) (codes "end-when-failed"))) }
 {
     serve_by(
         given.get_str("path"),
@@ -142,7 +142,11 @@ fn serve_in<'a>(given: &ArgMatches<'a>) -> Option<Job<'a>>
         options_by(
             given.get_str("count"),
             given.get_str("idle"),
-            limits_by(given.get_str("login"), given.get_str("cursor-bytes")),
+            limits_by(
+                given.get_str("login"),
+                given.get_str("cursor-bytes"),
+                given.get_str("all-bytes"),
+            ),
             given.get_str("log"),
             given.get_str("end-when-failed"),
         ),

@@ -11,7 +11,7 @@ pub struct Budget {
     /// Once one is open.
     pub opened: usize,
     /// How many bytes of rows its open cursors keep before no further one is opened, as where memory is refused. The last one may
-    /// bring them past it.
+    /// bring them past it, where who is asked does not know the bound.
     pub cursor_bytes: usize,
 }
 

@@ -4,7 +4,9 @@ use crate::access::{Access, is_checked, is_opened};
 use crate::budget::Budget;
 use crate::exchange::{Exchanged, do_command};
 use crate::kept_cursors::KeptCursors;
+use crate::settling::settle;
 use crate::state::State;
+use crate::told::Told;
 use command_kit::{Ask, Replies, Statements};
 use dss_frames::{Format, FrameFault, Segments, write_dss};
 use session_commands::{Session, Settings, fresh_session};
@@ -118,7 +120,7 @@ impl Front {
     /// Takes the bytes in front of a piece that belong to the command under way, and says how many: up to
     /// its end, or to the end of the next header where that is to be judged first, and all of the piece
     /// where it ends before; none once it is closed, and none where memory is refused, or more of the command is
-    /// kept already than the budget has. So a caller that
+    /// kept already than the budget has, or whoever is asked lets no more of it be kept. So a caller that
     /// feeds by this between two calls of `next` never has a byte of a second command here.
     #[inline(always)]
     pub fn feed_command(&mut self, piece: &[u8]) -> usize
@@ -128,7 +130,10 @@ impl Front {
         ensures far { IsUnfinished self.old.rest → (result ≡ 0) ⊎ GoesFar self.old.rest piece.now result }
         ensures closed { IsTrue self.old.session.is_closed → result ≡ 0 }
     {
-        if self.is_closed() || self.kept > self.budget.at(self.state.session.stage) {
+        if self.is_closed()
+            || self.kept > self.budget.at(self.state.session.stage)
+            || self.state.told.is_refused
+        {
             return 0;
         }
         let taken = self.segments.feed_command(piece);
@@ -148,17 +153,22 @@ impl Front {
             return Need::Closed;
         }
         match self.segments.next() {
-            Ok(None) => Need::Bytes,
+            Ok(None) => {
+                self.state.told.go_on(asker, self.kept);
+                Need::Bytes
+            }
             Ok(Some(group)) => {
                 self.kept = 0;
-                match do_command(
+                let exchanged = do_command(
                     self.alloc,
                     &self.settings,
                     &mut self.state,
                     group,
                     asker,
                     out,
-                ) {
+                );
+                settle(self.alloc, &mut self.segments, &mut self.state, asker);
+                match exchanged {
                     Exchanged::Done => behind_command(self.state.session),
                     Exchanged::Short(bytes) => Need::Short(bytes),
                 }
@@ -189,6 +199,7 @@ fn fresh_state(alloc: Global, cursor_bytes: usize) -> State
         database_name: Vec::new(alloc),
         replies: Replies::new(alloc),
         cursors: KeptCursors::new(alloc, cursor_bytes),
+        told: Told::nothing(),
         refused: 0,
     }
 }

@@ -1,9 +1,9 @@
 //! How much the open cursors of a conversation keep.
 
+use crate::measure::row_bytes;
 use command_kit::Statements;
 use drda_commands::{Accepted, Command};
 use std::alloc::{AllocError, Global};
-use tables::RowList;
 
 /// A cursor that stayed open behind its opening.
 #[derive(Drop)]
@@ -21,7 +21,7 @@ pub(crate) struct KeptCursors {
     cursors: Vec<KeptCursor>,
     // The section whose cursor is being opened, if one is.
     section: Vec<u8>,
-    is_opening: bool,
+    pub(crate) is_opening: bool,
 }
 
 impl KeptCursors {
@@ -45,7 +45,8 @@ impl KeptCursors {
         if !self.is_opening {
             return Ok(());
         }
-        if self.bytes(statements) >= self.most {
+        self.forget_ended(statements);
+        if self.bytes() >= self.most {
             return Err(AllocError);
         }
         self.section.clear();
@@ -60,21 +61,27 @@ impl KeptCursors {
         if !self.is_opening {
             return;
         }
-        if let Ok(block) = statements.sections.next_block(&self.section, None, None) {
-            self.put(alloc, bytes_of(block.rows));
+        if let Ok(block) = statements
+            .sections
+            .next_block(&self.section, None, SHORTEST)
+        {
+            self.put(alloc, row_bytes(block.rows));
         }
     }
 
-    // The bytes that the open ones keep.
-    fn bytes(&self, statements: &Statements) -> usize {
+    /// The bytes that those keep which have not been forgotten.
+    pub(crate) fn bytes(&self) -> usize {
         let mut sum = 0usize;
         for kept in self.cursors.as_slice() {
-            match statements.sections.next_block(&kept.section, None, None) {
-                Ok(_) => sum = sum.saturating_add(kept.bytes),
-                Err(_) => {}
-            }
+            sum = sum.saturating_add(kept.bytes);
         }
         sum
+    }
+
+    /// Those that have ended are forgotten.
+    pub(crate) fn forget_ended(&mut self, statements: &Statements) {
+        self.cursors
+            .retain(|kept| is_open(statements, &kept.section));
     }
 
     // The section's cursor keeps so many.
@@ -90,11 +97,13 @@ impl KeptCursors {
     }
 }
 
-// The bytes of rows.
-fn bytes_of(rows: &RowList) -> usize {
-    let mut sum = 0usize;
-    for i in 0..rows.len() {
-        sum = sum.saturating_add(rows.row(i).bytes().len());
-    }
-    sum
+// The shortest block: it is asked for where nothing is sent.
+const SHORTEST: Option<u32> = Some(1);
+
+// Whether the cursor of a section is open.
+fn is_open(statements: &Statements, section: &[u8]) -> bool {
+    statements
+        .sections
+        .next_block(section, None, SHORTEST)
+        .is_ok()
 }

@@ -15,8 +15,11 @@ mod feeding;
 mod front;
 mod kept_cursors;
 pub mod laws;
+mod measure;
+mod settling;
 mod sizes;
 mod state;
+mod told;
 mod writing;
 
 pub use access::Access;
@@ -25,5 +28,6 @@ pub use drda_commands::{Mechanism, Stage};
 pub use fed::{Fed, FedState, Heard, HeardSome};
 pub use feeding::{feed, feed_all, feed_some};
 pub use front::{Front, Need};
+pub use measure::row_bytes;
 pub use session_commands::{Agreed, Session, Settings, SettingsError};
 pub use writing::write_whole;

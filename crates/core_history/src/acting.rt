@@ -68,6 +68,14 @@ impl<D: Disk> Book<D> {
         self.core
     }
 
+    /// From now on the rows of an answer take so many bytes at most, each 8 beside its own: a query whose rows take more is answered
+    /// `NoMemory`, and not listed. Before, there is no bound.
+    pub fn bound_rows(&mut self, bytes: usize)
+        ensures { self.new ≡ self.old }
+    {
+        self.core.bound_rows(bytes);
+    }
+
     /// How many checkpoints were written since the book was opened, modulo 2^64. No clause says anything of it.
     pub fn checkpoints(&self) -> u64 {
         self.renewals.written()

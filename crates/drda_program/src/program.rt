@@ -37,7 +37,7 @@ use xa_manager::Decision;
 /// - `init PATH --size N --rdb NAME` makes a store in a new file, and says its size.
 /// - `pipe [PATH] [--rdb NAME] --user U:P` answers event records from `reader` to `out`, over the store
 ///   of the path, or over one in memory that is just made and has this name.
-/// - `serve PATH --port N --user U:P [--count N] [--idle N] [--login N] [--cursor-bytes N] [--log] [--end-when-failed]` says
+/// - `serve PATH --port N --user U:P [--count N] [--idle N] [--login N] [--cursor-bytes N] [--all-bytes N] [--log] [--end-when-failed]` says
 ///   its port and serves conversations over sockets, up to 64 side by side, each in a thread of its own; with `--idle N` a
 ///   connection on which nothing has come, or nothing was taken, for N seconds is closed, one that has not opened the database
 ///   within the N seconds of `--login` is too, and with `--log` what becomes of conversations is told to `log`.

@@ -34,7 +34,7 @@ pub(crate) struct Hall<'a, D: Disk, B: Origin<D>, R: Wait, G: Gate, L: Log, K> {
     pub(crate) fullness: &'a Fullness,
     pub(crate) failure: &'a Failure,
     pub(crate) doors: &'a Doors<K>,
-    /// With how many bytes of rows kept for its cursors a conversation opens no further one.
+    /// How many bytes of rows a conversation keeps for its cursors at most.
     pub(crate) cursor_bytes: usize,
 }
 

@@ -90,7 +90,7 @@ where
     ensures { ServesCore D.is_modelled D.life N.calls N.Stream.remaining N.Writer.contents B.is settings.now options port net.old (W.contents out.old) result net.new (W.contents out.new) }
 {
     let opened = opened(&core);
-    let shared: Shared<D, B> = match Shared::new(alloc, core) {
+    let shared: Shared<D, B> = match Shared::new(alloc, core, options.all_bytes) {
         Ok(shared) => shared,
         Err(_) => return Err(Fault::NoMemory),
     };

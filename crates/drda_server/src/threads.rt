@@ -88,7 +88,7 @@ pub struct Rules<'a> {
     pub login: u32,
     /// How many seconds a read or a write of a stream may wait once the database is open, where that is limited.
     pub idle: Option<u32>,
-    /// With so many bytes of rows kept for its open cursors a conversation opens no further one.
+    /// So many bytes of rows a conversation keeps for its open cursors at most.
     pub cursor_bytes: usize,
     /// Whether serving ends once the device has failed: then each stream is ended once what is under way was answered.
     pub failure: &'a Failure,

@@ -73,6 +73,16 @@ impl Segments {
         *self = Segments::new(alloc);
     }
 
+    /// Gives its memory back where nothing has come behind the command that was lent last, overwritten first. What was lent is forgotten.
+    pub fn release(&mut self, alloc: Global)
+        ensures rest { self.new.rest ≡ self.old.rest }
+        ensures fault_stays { self.new.at_fault ≡ self.old.at_fault }
+    {
+        if !self.at_fault && self.rest().is_empty() {
+            self.restart(alloc);
+        }
+    }
+
     /// Takes the bytes that come next, and says how many it took: all of them, none after a fault,
     /// and fewer only where memory is refused. What was lent before is forgotten.
     pub fn feed(&mut self, piece: &[u8]) -> usize

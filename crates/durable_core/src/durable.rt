@@ -96,6 +96,14 @@ impl<D: Disk> DurableCore<D> {
         self.core.lost(conversation)
     }
 
+    /// From now on the rows of an answer take so many bytes at most, each 8 beside its own: a query whose rows take more is answered
+    /// `NoMemory`. Before, there is no bound.
+    pub fn bound_rows(&mut self, bytes: usize)
+        ensures { self.new ≡ self.old }
+    {
+        self.core.bound_rows(bytes);
+    }
+
     /// The name of the database.
     pub fn name(&self) -> &str
         ensures { result.now ≡ self.now.name }

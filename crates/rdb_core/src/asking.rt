@@ -31,12 +31,13 @@ use unit_locks::Claim;
 use unit_table::{KeepError, Owner, Units};
 
 /// What a fit statement of an owner's unit is answered over the committed tables, and what becomes of
-/// the units. Where no rows were read, and out of memory, all units stay.
+/// the units. Where no rows were read, and out of memory, all units stay. Rows of more than so many bytes are no answer.
 pub(crate) fn ask_unit<R: Source>(
     tables: &PagedTables,
     units: &mut Units,
     source: &mut R,
     alloc: Global,
+    row_bytes: usize,
     owner: &Owner,
     question: Question<'_, '_, '_>,
 ) -> Result<Answer, ReadError>
@@ -47,7 +48,7 @@ pub(crate) fn ask_unit<R: Source>(
     ensures source { LeavesReader (MayRead R.reads) R.fails_to_read source.old result source.new }
     ensures clash { asked_of (base_of tables.now units.old) (plain_owner owner.now) (question_of question.entry) ≡ Clashes → source.new ≡ source.old }
 {
-    match look(tables, units, source, alloc, owner, question)? {
+    match look(tables, units, source, alloc, row_bytes, owner, question)? {
         None => Ok(Answer::Refused(Refusal::Clashes)),
         Some(found) => Ok(conclude(units, owner, found)?),
     }
@@ -80,6 +81,7 @@ fn look<R: Source>(
     units: &Units,
     source: &mut R,
     alloc: Global,
+    row_bytes: usize,
     owner: &Owner,
     question: Question<'_, '_, '_>,
 ) -> Result<Option<Found>, ReadError>
@@ -94,6 +96,7 @@ fn look<R: Source>(
                 tables,
                 changes,
                 alloc,
+                row_bytes,
             };
             find(&sight, source, units, owner, question)
         }
@@ -103,6 +106,7 @@ fn look<R: Source>(
                 tables,
                 changes: &none,
                 alloc,
+                row_bytes,
             };
             find(&sight, source, units, owner, question)
         }
@@ -127,6 +131,7 @@ fn look_for_description(
                 tables,
                 changes,
                 alloc,
+                row_bytes: usize::MAX,
             };
             find_description(&sight, units, owner, statement, side)
         }
@@ -136,6 +141,7 @@ fn look_for_description(
                 tables,
                 changes: &none,
                 alloc,
+                row_bytes: usize::MAX,
             };
             find_description(&sight, units, owner, statement, side)
         }

@@ -35,6 +35,8 @@ pub struct Core<R: Recorder> {
     pub store: PagedTables,
     pub(crate) units: Units,
     pub(crate) branches: XaTable,
+    // The bytes of rows that an answer may have. No clause speaks of it.
+    pub(crate) row_bytes: usize,
     /// Who records. May be lent beside the committed tables.
     pub recorder: R,
 }
@@ -51,8 +53,19 @@ impl<R: Recorder> Core<R> {
             store: PagedTables::new(alloc),
             units: Units::new(alloc),
             branches: XaTable::new(alloc),
+            row_bytes: usize::MAX,
             recorder,
         }
+    }
+
+    /// From now on the rows of an answer take so many bytes at most, each 8 beside its own: a query whose rows take more is answered
+    /// `NoMemory`, as where memory is refused. Before, there is no bound.
+    pub fn bound_rows(&mut self, bytes: usize)
+        ensures state { state_of self.new ≡ state_of self.old }
+        ensures recorder { recorder_of self.new ≡ recorder_of self.old }
+        ensures pages { pages_of self.new ≡ pages_of self.old }
+    {
+        self.row_bytes = bytes;
     }
 
     /// Who records.

@@ -34,6 +34,7 @@ impl<R: Recorder> Core<R> {
             store,
             units: Units::new(alloc),
             branches: XaTable::new(alloc),
+            row_bytes: usize::MAX,
             recorder,
         }
     }

@@ -71,6 +71,28 @@ where
     }
 }
 
+/// What is answered, where its rows take no more bytes than these.
+pub(crate) fn within(reply: Reply, row_bytes: usize) -> Result<Reply, AllocError>
+    ensures { IfOk result (λ r. r ≡ reply) }
+{
+    if taken_by(&reply.answer) > row_bytes {
+        return Err(AllocError);
+    }
+    Ok(reply)
+}
+
+// The bytes that the rows of an answer take: their own, and 8 for where each ends.
+fn taken_by(answer: &Answer) -> usize {
+    let Answer::Rows(rows) = answer else {
+        return 0;
+    };
+    let mut taken = rows.len().saturating_mul(8);
+    for i in 0..rows.len() {
+        taken = taken.saturating_add(rows.row(i).bytes().len());
+    }
+    taken
+}
+
 // What a statement's answer is told as. A count that no `u32` holds is told as want of memory: the
 // changes of a unit are too few for it.
 fn told_as(alloc: Global, answer: SqlAnswer) -> Result<Reply, AllocError>

@@ -15,7 +15,7 @@ ghost use Rattle.ahead_view.specs.Source.{LeavesReader, MayRead};
 ghost use Rattle.rdb_core.specs.Given.{IsGiven, IsReplied};
 ghost use Rattle.rdb_core.specs.Sight.{seen_by};
 
-use crate::reply::{Reply, statement_reply};
+use crate::reply::{Reply, statement_reply, within};
 use ahead_view::{AheadView, ReadAhead, ReadError, Source, Wanted, read_ahead};
 use paged_tables::PagedTables;
 use row_values::Value;
@@ -31,6 +31,8 @@ pub(crate) struct Sight<'a> {
     pub(crate) tables: &'a PagedTables,
     pub(crate) changes: &'a UnitChanges,
     pub(crate) alloc: Global,
+    /// The bytes of rows that an answer may have.
+    pub(crate) row_bytes: usize,
 }
 
 impl<'a> Sight<'a> {
@@ -66,7 +68,7 @@ impl<'a> Sight<'a> {
 
     /// What a bound statement is answered, and which changes it makes, where so many bytes of changes are
     /// left: the committed rows that it asks for are read first, and it is answered over the tables that
-    /// have what was read.
+    /// have what was read. Rows of more bytes than an answer may have count as want of memory.
     pub(crate) fn reply<R: Source>(
         &self,
         source: &mut R,
@@ -82,18 +84,19 @@ impl<'a> Sight<'a> {
     {
         let read = read_ahead(source, self.alloc, self.tables, wanted)?;
         let base = AheadView::new(self.tables, read);
-        match reply_over(base, self.changes, self.alloc, bound, left) {
+        match reply_over(base, self.changes, self.alloc, self.row_bytes, bound, left) {
             Ok(reply) => Ok(reply),
             Err(AllocError) => Err(ReadError::NoMemory),
         }
     }
 }
 
-// What a bound statement is answered over these tables with what its unit has changed.
+// What a bound statement is answered over these tables with what its unit has changed, in no more bytes of rows than these.
 fn reply_over<V: TableView + Drop>(
     base: V,
     changes: &UnitChanges,
     alloc: Global,
+    row_bytes: usize,
     bound: &Bound<'_, '_>,
     left: usize,
 ) -> Result<Reply, AllocError>
@@ -110,5 +113,6 @@ where
         changes,
         alloc,
     };
-    statement_reply(alloc, bound, left, &mut view)
+    let reply = statement_reply(alloc, bound, left, &mut view)?;
+    within(reply, row_bytes)
 }

@@ -126,6 +126,7 @@ impl<R: Recorder + Source> Core<R> {
             &mut self.units,
             &mut self.recorder,
             self.alloc,
+            self.row_bytes,
             &owner,
             question,
         ) {

@@ -91,6 +91,11 @@ impl Bench {
         self.core.recorder.reads = 0;
     }
 
+    /// The rows of an answer take so many bytes at most from now on.
+    pub fn bound_rows(&mut self, bytes: usize) {
+        self.core.bound_rows(bytes);
+    }
+
     /// Each read is refused so from now on, or none is.
     pub fn refuse_reads(&mut self, fault: Option<ReadError>) {
         self.core.recorder.fault = fault;

@@ -105,6 +105,31 @@ fn tells_why_no_row_was_read(rt: HostRuntime) -> Result<(), Fail> {
     Ok(())
 }
 
+// Whether a query of conversation 1 is answered that memory was refused where its rows may take so many bytes, and how many rows another
+// unit deletes then.
+fn bounded(alloc: Global, bytes: usize) -> Option<(bool, Option<usize>)> {
+    let mut bench = filled(alloc)?;
+    bench.bound_rows(bytes);
+    let short = matches!(
+        bench.ask(alloc, 1, "SELECT K, V FROM T"),
+        Some(Answer::NoMemory)
+    );
+    Some((short, rows_for(alloc, &mut bench, 2, "DELETE FROM T")))
+}
+
+// The row takes 18 bytes: its own 10, and 8 for where it ends. A query that wants more than it may claims nothing; else it claims the table.
+#[test]
+fn a_query_takes_no_more_than_it_may(rt: HostRuntime) -> Result<(), Fail> {
+    for (bytes, found) in [
+        (0, (true, Some(1))),
+        (17, (true, Some(1))),
+        (18, (false, None)),
+    ] {
+        assert!(rt; bounded(rt.alloc(), bytes) == Some(found));
+    }
+    Ok(())
+}
+
 // Whether a statement is answered that the device failed which is given a row that is cut off, how often it counts as failed, and how
 // many rows another unit deletes that are given as they are.
 fn cut(alloc: Global, text: &str) -> Option<(bool, u32, Option<usize>)> {

@@ -11,6 +11,7 @@ use Rattle.shared_node.specs.declared.origin.Origin as origin
 use Rattle.shared_node.specs.contracts.shared.Shared as shared
 use Rattle.shared_node.specs.contracts.held.Held as held
 use Rattle.shared_node.specs.contracts.held.Held.TheInside as inside
+use Rattle.shared_node.proofs.keeping.Keeping.TheSendSync as keeping_sends
 use Rattle.shared_node.proofs.waiting.Waiting.TheSendSync as waiting_sends
 
 inside_send : (T B : RattleType) (g : Ghosts T.Denot) (o : origin.Ghosts B.Denot T.Denot) → IsSend T → IsSend (inside.the_row T B g o)
@@ -23,4 +24,4 @@ held_send T B g o s = view_send (inside.the_row T B g o) _ _ _ _ (inside_send T 
 pub shared_sync : (T B : RattleType) (g : Ghosts T.Denot) (o : origin.Ghosts B.Denot T.Denot) → IsSend T → IsSync (shared.the_row T B g o)
 shared_sync T B g o s =
     let h = held_send T B g o s in
-    declared_sync (shared.the_type T B g o) (search (sendable, crosses, h) depth 12, (search (sendable, waiting_sends.the_sync) depth 12, tt))
+    declared_sync (shared.the_type T B g o) (search (sendable, crosses, h) depth 12, (search (sendable, waiting_sends.the_sync) depth 12, (search (sendable, keeping_sends.the_sync) depth 12, tt)))

@@ -2,6 +2,7 @@
 
 use crate::gate::Gate;
 use crate::held::Held;
+use crate::keeping::Share;
 use crate::origin::Origin;
 use crate::shared::Shared;
 use crate::turn::{Begun, Turn, full_of, time};
@@ -42,6 +43,7 @@ pub(crate) struct Asker<'a, D: Disk, B: Origin<D>, R: Wait + Clock, G: Gate> {
     is_idle: bool,
     waited: u64,
     held: u64,
+    share: Share,
 }
 
 impl<'a, D: Disk, B: Origin<D>, R: Wait + Clock, G: Gate> Model for Asker<'a, D, B, R, G> {
@@ -59,12 +61,13 @@ impl<'a, D: Disk, B: Origin<D>, R: Wait + Clock, G: Gate> Model for Asker<'a, D,
 impl<'a, D: Disk, B: Origin<D>, R: Wait + Clock, G: Gate> Asker<'a, D, B, R, G> {
     ghost use Rattle.std.specs.Prelude.{◌≡◌};
 
-    /// No call was made with the pass.
+    /// No call was made with the pass. The cursors of its conversation keep no more than so many bytes of rows.
     pub(crate) fn new(
         rt: &'a R,
         shared: &'a Shared<D, B>,
         gate: &'a G,
         pass: Pass,
+        cursor_bytes: usize,
     ) -> Asker<'a, D, B, R, G>
         ensures { result ≡ pass }
     {
@@ -80,6 +83,7 @@ impl<'a, D: Disk, B: Origin<D>, R: Wait + Clock, G: Gate> Asker<'a, D, B, R, G> 
             is_idle: false,
             waited: 0,
             held: 0,
+            share: Share::new(cursor_bytes),
         }
     }
 
@@ -88,10 +92,11 @@ impl<'a, D: Disk, B: Origin<D>, R: Wait + Clock, G: Gate> Asker<'a, D, B, R, G> 
         (self.waited, self.held)
     }
 
-    /// The pass.
+    /// The pass. Nothing is kept any more.
     pub(crate) fn into_pass(self) -> Pass
         ensures { result ≡ self.entry }
     {
+        self.share.end(&self.shared.keeping);
         self.pass
     }
 
@@ -175,7 +180,10 @@ impl<'a, D: Disk, B: Origin<D>, R: Wait + Clock, G: Gate> Ask for Asker<'a, D, B
         let (mut hold, leads) = self.come(&wished);
         let held = &mut *hold.guard;
         let waiting = &self.shared.waiting;
+        let reserved = self.share.reserve(&self.shared.keeping, call);
+        held.bound_rows(reserved);
         let acted = held.take_turn(self.rt, waiting, &mut self.pass, call, &wished);
+        self.share.settle(&self.shared.keeping, reserved, &acted);
         self.leave(hold, &acted, leads);
         told(acted)
     }
@@ -191,6 +199,19 @@ impl<'a, D: Disk, B: Origin<D>, R: Wait + Clock, G: Gate> Ask for Asker<'a, D, B
     fn rest(&mut self) {
         self.give_back();
         self.expects_end = false;
+    }
+
+    fn keep(&mut self, bytes: usize) -> bool {
+        let shared = self.shared;
+        if self.share.set(&shared.keeping, bytes) {
+            return true;
+        }
+        if self.hold.is_some() {
+            return false;
+        }
+        // What is left may be reserved for a query, but not under the lock.
+        let _guard = shared.take(self.rt);
+        self.share.set(&shared.keeping, bytes)
     }
 }
 

@@ -75,7 +75,13 @@ impl<'a, D: Disk, B: Origin<D>, R: Wait + Clock, G: Gate> Desk<'a, D, B, R, G> {
         ensures lost { IsLost (DeskAsks D.is_modelled D.life B.is) self.entry.pass result.served result.pass }
         ensures cause { TellsFaults result.served (counts reader.old writer.old) (counts reader.new writer.new) }
     {
-        let mut asker = Asker::new(self.rt, self.shared, self.gate, self.pass);
+        let mut asker = Asker::new(
+            self.rt,
+            self.shared,
+            self.gate,
+            self.pass,
+            host.cursor_bytes(),
+        );
         let served = serve_asker(alloc, settings, &mut asker, reader, writer, host);
         let (longest_wait, longest_hold) = asker.longest();
         Ended {

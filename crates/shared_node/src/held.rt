@@ -114,6 +114,13 @@ impl<D: Disk, B: Origin<D>> Held<D, B> {
         is_taken
     }
 
+    /// The next answer has so many bytes of rows at most.
+    pub(crate) fn bound_rows(&mut self, bytes: usize)
+        ensures { self.new ≡ self.old }
+    {
+        self.book.bound_rows(bytes);
+    }
+
     /// Does one call of a pass, and behind a loss considers a checkpoint.
     pub(crate) fn take_turn<R: Wait>(
         &mut self,

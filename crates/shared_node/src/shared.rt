@@ -1,6 +1,7 @@
 //! A book under a lock.
 
 use crate::held::Held;
+use crate::keeping::Keeping;
 use crate::origin::Origin;
 use crate::turn::{Turn, time};
 use crate::waiting::Waiting;
@@ -25,6 +26,7 @@ const PAUSES: u32 = 10;
 pub struct Shared<D: Disk, B: Origin<D>> {
     pub(crate) held: Mutex<Held<D, B>>,
     pub(crate) waiting: Waiting,
+    pub(crate) keeping: Keeping,
 }
 
 impl<D: Disk, B: Origin<D>> Shared<D, B> {
@@ -32,8 +34,13 @@ impl<D: Disk, B: Origin<D>> Shared<D, B> {
     ghost use Rattle.core_history.specs.Passes.{AreJust, AreListed, calls_in};
     ghost use Rattle.shared_node.specs.Locked.{Considers, GivesLeave, GivesNone, Retires, UnderLock};
 
-    /// Opens a book over a core, under a lock. Out of memory, the core is handed back.
-    pub fn new(alloc: Global, core: DurableCore<D>) -> Result<Shared<D, B>, DurableCore<D>>
+    /// Opens a book over a core, under a lock. All conversations together keep no more than so many bytes of commands that came and of
+    /// rows for cursors. Out of memory, the core is handed back.
+    pub fn new(
+        alloc: Global,
+        core: DurableCore<D>,
+        all_bytes: u64,
+    ) -> Result<Shared<D, B>, DurableCore<D>>
         requires { B.is core }
         ensures { IfErr result (λ back. back ≡ core) }
     {
@@ -47,6 +54,7 @@ impl<D: Disk, B: Origin<D>> Shared<D, B> {
         Ok(Shared {
             held: Mutex::new(Held::new(book, wishes)),
             waiting,
+            keeping: Keeping::new(all_bytes),
         })
     }
 

@@ -92,7 +92,7 @@ impl Locks {
 
     /// A new book over a core. The passes of the one before it stay.
     pub fn open(&mut self, core: Core) -> Option<()> {
-        match Shared::new(self.alloc, core) {
+        match Shared::new(self.alloc, core, u64::MAX) {
             Ok(shared) => {
                 self.shared = Some(shared);
                 Some(())

@@ -141,7 +141,7 @@ fn serve<R: Threads + Wait + Clock + Sync>(
     stage: &Stage<'_>,
     callers: &mut Callers<'_>,
 ) -> Option<(Book<MemDisk>, bool)> {
-    let shared: Shared<MemDisk, Brand> = match Shared::new(alloc, core) {
+    let shared: Shared<MemDisk, Brand> = match Shared::new(alloc, core, u64::MAX) {
         Ok(shared) => shared,
         Err(_) => return None,
     };

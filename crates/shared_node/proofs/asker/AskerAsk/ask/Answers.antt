@@ -10,5 +10,5 @@ pub returns : goal.returns
 returns g c =
     let asks : Pass → Pass → Type 0 = λ before after. DeskAsks {D = g.row.D.Denot} g.D.Disk.is_modelled g.D.Disk.life g.B.Origin.is before (call_of c.args.call.now) (answer_of c.told.result) after in
     subst (λ (p : Pass). asks p c.leave.new.self) (c.self-2.view_is ∙ (c.come-hold.ensures ∙ c.self.view_is)) (subst (λ (p : Pass). asks c.self-2.inside.pass p) (sym c.leave.ensures)
-    (asked {D = g.row.D.Denot} g.D.Disk.is_modelled g.D.Disk.life g.B.Origin.is c.deref_mut-held.result.now c.take_turn-acted.new.self c.self-2.inside.pass c.take_turn-acted.new.pass (call_of c.args.call.now) c.take_turn-acted.result (answer_of c.told.result)
+    (asked {D = g.row.D.Denot} g.D.Disk.is_modelled g.D.Disk.life g.B.Origin.is c.bound_rows.new.self c.take_turn-acted.new.self c.self-2.inside.pass c.take_turn-acted.new.pass (call_of c.args.call.now) c.take_turn-acted.result (answer_of c.told.result)
     c.told.ensures c.take_turn-acted.ensures.shows c.take_turn-acted.ensures.origin c.take_turn-acted.ensures.was_kept c.take_turn-acted.ensures.is_kept c.take_turn-acted.ensures.journaled c.take_turn-acted.ensures.turn))
