@@ -1,5 +1,5 @@
 -- The changes are those that are told one by one, and the pages are known by the keys of their first rows.
-use Rattle.std.proofs.Common.{◌≡◌, ℕ, List, length, map, Option, sym, ap, ◌∙◌, arith}
+use Rattle.std.proofs.Common.{◌≡◌, ℕ, List, length, Option, sym, ap, ◌∙◌, arith}
 use Rattle.std.proofs.lemmas.List.{length-map}
 use Rattle.key_map.specs.Overlay.{change_of, changes_of}
 use Rattle.key_map.specs.Walk.{rows_left}
