@@ -1,8 +1,8 @@
 -- Tables over pages that are laid anew.
-use Rattle.std.specs.Prelude.{◌≡◌, ℕ, ◌+◌, ◌*◌, List, length, map}
+use Rattle.std.specs.Prelude.{◌≡◌, ℕ, ◌+◌, List, map}
 use Rattle.tables.specs.Tables.{Store, Table}
 use Rattle.table_map.specs.Stored.{Places}
-use Rattle.half_store.specs.Writing.{from_of, next_of, pages_of}
+use Rattle.half_store.specs.Writing.{from_of, pages_of}
 use Rattle.half_store.specs.declared.image.ImageWriter.{ImageWriter}
 use Rattle.checkpoint_writer.specs.Catalogue.{Entry}
 use Rattle.store_check.specs.Checkpoint.{forms}

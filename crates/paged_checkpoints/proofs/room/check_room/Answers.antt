@@ -1,5 +1,5 @@
 -- What is counted is of the tables that are created.
-use Rattle.std.proofs.Common.{rules, ◌≡◌, ◌≤◌, ℕ, List, length, ap, ◌∙◌, arith}
+use Rattle.std.proofs.Common.{rules, ◌≡◌, length, ap, ◌∙◌, arith}
 use Rattle.half_store.specs.Layout.{half_len}
 use Rattle.row_pages.specs.Laying.{counted}
 use Rattle.tables.specs.Tables.{Store}
@@ -7,7 +7,6 @@ use Rattle.tables.specs.View.{is_store}
 use Rattle.unit_journal.specs.Record.{entries_of}
 use Rattle.checkpoint_writer.proofs.Told.{read_on}
 use Rattle.checkpoints.specs.Room.{need_of}
-use Rattle.paged_tables.specs.PagedTables.{store_in}
 use Rattle.paged_checkpoints.proofs.Begun.{lent_shown}
 use Rattle.paged_checkpoints.proofs.room.check_room.Goals as goal
 

@@ -1,5 +1,5 @@
 -- There was room for it, or nothing was written.
-use Rattle.std.proofs.Common.{rules, ℕ, List, length, subst, arith}
+use Rattle.std.proofs.Common.{rules, ℕ, List, length, subst}
 use Rattle.std.proofs.lemmas.Result.{IfOk-weaker}
 use Rattle.drda_disk.specs.Disk.{Stays}
 use Rattle.half_store.specs.Layout.{half_len}
