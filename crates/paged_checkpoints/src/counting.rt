@@ -85,7 +85,10 @@ fn count_most(
 fn half_with(pages: &CountedPages, records: usize, held: usize) -> usize
     ensures { result ≡ counted (8192 * (1 + pages.now.tables + pages_with pages.now.catalogue []) + (records + held + 1)) }
 {
-    let pages = pages.tables.saturating_add(pages.catalogue.pages()).saturating_add(1);
+    let pages = pages
+        .tables
+        .saturating_add(pages.catalogue.pages())
+        .saturating_add(1);
     let behind = records.saturating_add(held).saturating_add(1);
     pages.saturating_mul(PAGE_BYTES).saturating_add(behind)
 }

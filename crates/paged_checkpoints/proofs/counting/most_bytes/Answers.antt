@@ -36,8 +36,8 @@ loop-table-preserved c =
       catalogue = (
         next + many,
         c.in_ok-count_most.ensures.catalogue e next (rows_of (entries_from (next + many) (all_shown rest))) lent.1
-        ∙ ap (λ (l : Tables). pages_with c.loop-table.pages.catalogue (rows_of (entries_from next (all_shown l)))) (sym lent.2)
-        ∙ inv.catalogue.1,
+            ∙ ap (λ (l : Tables). pages_with c.loop-table.pages.catalogue (rows_of (entries_from next (all_shown l)))) (sym lent.2)
+            ∙ inv.catalogue.1,
       );
     }
 

@@ -38,11 +38,11 @@ returns-clause-done g c =
     let store = store_of c.args.active.now in
     IfOk-weaker c.write_half.result _ _
     (λ r is rests so.
-        let all = is (rests_still modelled old mid stays store rests) (apart_still modelled old mid stays store c.args.tables.now.tables so) in
-        record {
-          anew = subst (λ (base : List ℕ). IsAnew modelled (g.D.Disk.life c.write_half.new.disk) base store (store_in c.args.tables.now) (entries_of c.args.records.now) c.args.held r.switched) stays.same all.anew;
-          stand = all.stand;
-        })
+    let all = is (rests_still modelled old mid stays store rests) (apart_still modelled old mid stays store c.args.tables.now.tables so) in
+    record {
+      anew = subst (λ (base : List ℕ). IsAnew modelled (g.D.Disk.life c.write_half.new.disk) base store (store_in c.args.tables.now) (entries_of c.args.records.now) c.args.held r.switched) stays.same all.anew;
+      stand = all.stand;
+    })
     c.write_half.ensures.done
 
 pub returns-clause-told : goal.returns-clause-told
