@@ -94,7 +94,7 @@ fn half_with(pages: &CountedPages, records: usize, held: usize) -> usize
 }
 
 /// At most so many bytes a half takes with all tables that are left to lend, with these records and with so many bytes
-/// held back, up to 2^64 - 1: each change since a table's pages were written may take two pages. No page is read.
+/// held back, up to 2^64 - 1 (`TableMap::most_pages`). No page is read.
 pub(crate) fn most_bytes(
     alloc: Global,
     tables: TablesLeft<'_>,

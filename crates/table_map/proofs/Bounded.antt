@@ -1,5 +1,5 @@
 -- Rows with changes take no more pages than those that the rows have, and two for each change.
-use Rattle.std.proofs.Common.{◌≡◌, ⊎_elim, ℕ, ◌+◌, ◌*◌, ◌<◌, ◌≤◌, List, [], ◌∷◌, ◌++◌, length, Bool, true, false, Less, Equal, Greater, refl, sym, ap, subst, ◌∙◌, arith, append-nil, length-append}
+use Rattle.std.proofs.Common.{◌≡◌, ⊎_elim, ℕ, ◌+◌, ◌*◌, ◌<◌, ◌≤◌, List, [], ◌∷◌, ◌++◌, length, map, Bool, true, false, Less, Equal, Greater, refl, sym, ap, subst, ◌∙◌, arith, append-nil, length-append}
 use Rattle.std.specs.Prelude.{nat_le, Option, Some, None, if◌then◌else◌}
 use Rattle.std.specs.Ordering.{match_ordering}
 use Rattle.std.specs.declared.cmp.Ordering.{Ordering}
@@ -7,8 +7,10 @@ use Rattle.std.proofs.lemmas.Bool.{le-leb, lt-leb, cases_lt}
 use Rattle.row_pages.specs.Page.{row_bytes, rows_bytes}
 use Rattle.row_pages.specs.Laying.{count_behind, ended, fits, laid, laid_behind, last_count, rows_over}
 use Rattle.key_map.specs.Merging.{Changes, Rows, changed, keyed, merged}
+use Rattle.key_map.specs.Overlay.{change_of, said}
 use Rattle.key_map.specs.Slots.{by_bytes}
 use Rattle.table_map.specs.Keyed.{keyed_rows}
+use Rattle.table_map.specs.Room.{bytes_of, most_by_bytes}
 use Rattle.table_map.specs.Stored.{AreAt}
 use Rattle.table_map.specs.Table.{without_keys}
 
@@ -150,6 +152,63 @@ many_pages file at (page ∷ pages) stand =
     let fit : 3 + (0 + length (rows_bytes page)) ≤ 8192 = omega (arith, stand.0.fits) in
     omega (arith, fill page (rows_over pages) 0 fit, here.most, many_pages file (at + 8192) pages stand.1)
 
+-- ---- by their bytes
+
+filled_most : (rows : List (List ℕ)) (c : ℕ) → 8190 * count_behind c rows ≤ 8190 + 2 * length (rows_bytes rows) + c
+filled_most [] c = ⊎_elim (λ none. omega (arith, last_none c none)) (λ some. omega (arith, last_some c some)) (cases_lt c 1)
+filled_most (row ∷ rows) c =
+    let size = length-append (row_bytes row) (rows_bytes rows) in
+    let one = row_size row in
+    ⊎_elim
+    (λ past. omega (arith, past, size, one, begins c row rows past, filled_most rows (2 + length row)))
+    (λ fit. omega (arith, size, one, goes_on c row rows fit, filled_most rows (c + 2 + length row)))
+    (cases_lt 8192 (3 + (c + 2 + length row)))
+
+abbrev said_bytes : Option (List ℕ) → ℕ
+said_bytes None = 0
+said_bytes (Some row) = 2 + length row
+
+abbrev change_bytes : Changes → ℕ
+change_bytes [] = 0
+change_bytes (c ∷ cs) = said_bytes c.1 + change_bytes cs
+
+bytes_with : (e : List ℕ × List ℕ) (rows : Rows) → length (rows_bytes (without_keys (e ∷ rows))) ≡ 2 + length e.1 + length (rows_bytes (without_keys rows))
+bytes_with e rows = omega (arith, length-append (row_bytes e.1) (rows_bytes (without_keys rows)), row_size e.1)
+
+put_bytes : (key : List ℕ) (r : Option (List ℕ)) (rows : Rows) → length (rows_bytes (without_keys (keyed key r ++ rows))) ≤ said_bytes r + length (rows_bytes (without_keys rows))
+put_bytes key None rows = omega arith
+put_bytes key (Some row) rows = omega (arith, bytes_with (key, row) rows)
+
+bytes_among : (e : List ℕ × List ℕ) (es more : Rows) (key : List ℕ) (r : Option (List ℕ)) → length (rows_bytes (without_keys more)) ≤ said_bytes r + length (rows_bytes (without_keys es)) → (o : Ordering)
+    → length (rows_bytes (without_keys (match_ordering o (keyed key r ++ (e ∷ es)) (keyed key r ++ es) (e ∷ more)))) ≤ said_bytes r + length (rows_bytes (without_keys (e ∷ es)))
+bytes_among e es more key r so Less = put_bytes key r (e ∷ es)
+bytes_among e es more key r so Equal = omega (arith, put_bytes key r es, bytes_with e es)
+bytes_among e es more key r so Greater = omega (arith, so, bytes_with e es, bytes_with e more)
+
+one_changed : (rows : Rows) (key : List ℕ) (r : Option (List ℕ)) → length (rows_bytes (without_keys (changed rows key r))) ≤ said_bytes r + length (rows_bytes (without_keys rows))
+one_changed [] key r = subst (λ (rows : Rows). length (rows_bytes (without_keys rows)) ≤ said_bytes r + 0) (append-nil (keyed key r)) (put_bytes key r [])
+one_changed (e ∷ es) key r = bytes_among e es (changed es key r) key r (one_changed es key r) (by_bytes key e.0)
+
+all_changed : (rows : Rows) (cs : Changes) → length (rows_bytes (without_keys (merged rows cs))) ≤ change_bytes cs + length (rows_bytes (without_keys rows))
+all_changed rows [] = omega arith
+all_changed rows (c ∷ cs) = omega (arith, one_changed (merged rows cs) c.0 c.1, all_changed rows cs)
+
+said_most : (row : List ℕ) → said_bytes (said row) ≤ 2 + length row
+said_most [] = omega arith
+said_most (b ∷ bytes) = omega arith
+
+entries_most : (entries : Rows) → change_bytes (map change_of entries) ≤ bytes_of entries
+entries_most [] = omega arith
+entries_most (e ∷ es) = omega (arith, said_most e.1, entries_most es)
+
+rows_append : (a b : List (List ℕ)) → length (rows_bytes (a ++ b)) ≡ length (rows_bytes a) + length (rows_bytes b)
+rows_append [] b = omega arith
+rows_append (row ∷ a) b = omega (arith, rows_append a b, length-append (row_bytes row) (rows_bytes (a ++ b)), length-append (row_bytes row) (rows_bytes a))
+
+pages_most : (file : List ℕ) (at : ℕ) (pages : List (List (List ℕ))) → AreAt file at pages → length (rows_bytes (rows_over pages)) ≤ 8189 * length pages
+pages_most file at [] stand = omega arith
+pages_most file at (page ∷ pages) stand = omega (arith, rows_append page (rows_over pages), stand.0.fits, pages_most file (at + 8192) pages stand.1)
+
 -- ---- as pages are counted
 
 size_more : (rows : List (List ℕ)) (row : List ℕ) → length (rows_bytes (rows ++ row ∷ [])) ≡ length (rows_bytes rows) + 2 + length row
@@ -185,3 +244,14 @@ most key_of file at pages cs stand =
     let same = ap (λ (l : List (List ℕ)). count_behind 0 l) (bare key_of (rows_over pages)) in
     let count : length (laid (without_keys (merged rows cs))) ≡ count_behind 0 (without_keys (merged rows cs)) = count_is [] (without_keys (merged rows cs)) in
     omega (arith, count, all_changes rows cs, same, many_pages file at pages stand)
+
+pub most_in_bytes : (key_of : List ℕ → List ℕ) (file : List ℕ) (at : ℕ) (pages : List (List (List ℕ))) (entries : Rows) → AreAt file at pages
+    → length (laid (without_keys (merged (keyed_rows key_of (rows_over pages)) (map change_of entries)))) ≤ most_by_bytes (length pages) (bytes_of entries)
+most_in_bytes key_of file at pages entries stand =
+    let rows = keyed_rows key_of (rows_over pages) in
+    let all = without_keys (merged rows (map change_of entries)) in
+    let same = ap (λ (l : List (List ℕ)). length (rows_bytes l)) (bare key_of (rows_over pages)) in
+    let count : length (laid all) ≡ count_behind 0 all = count_is [] all in
+    let bound : 8190 * length (laid all) ≤ 8190 + 2 * (8189 * length pages + bytes_of entries) =
+    omega (arith, count, filled_most all 0, all_changed rows (map change_of entries), entries_most entries, same, pages_most file at pages stand) in
+    omega (arith, bound)
