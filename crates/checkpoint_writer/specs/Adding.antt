@@ -1,9 +1,10 @@
 -- Pages that are added to an image.
-use Rattle.std.specs.Prelude.{◌≡◌, ℕ, ◌+◌, ◌-◌, ◌≤◌, Bool, List}
+use Rattle.std.specs.Prelude.{◌≡◌, ℕ, ◌+◌, ◌-◌, ◌*◌, ◌≤◌, Bool, List, length}
 use Rattle.drda_disk.specs.Disk.{Life, Torn, LeavesOnly}
 use Rattle.half_store.specs.Active.{Store}
 use Rattle.half_store.specs.Writing.{IsKept, IsWriting, half_of, half_bytes_of, generation_of, pages_of, from_of, next_of}
 use Rattle.half_store.specs.declared.image.ImageWriter.{ImageWriter}
+use Rattle.table_map.specs.Stored.{Places}
 
 -- the offset behind the half that is written
 abbrev pub end_of_half : ImageWriter → ℕ
@@ -20,3 +21,8 @@ pub record AddsPages (modelled : Bool) (old new : Life) (w after : ImageWriter) 
   pub half : half_of after ≡ half_of w
   pub half_bytes : half_bytes_of after ≡ half_bytes_of w
   pub generation : generation_of after ≡ generation_of w
+
+-- these pages were added to an image, and no others
+pub record AreLast (w after : ImageWriter) (pages : Places) : Type 0 where
+  pub at : pages.at ≡ next_of w
+  pub next : next_of after ≡ pages.at + 8192 * length pages.keys

@@ -3,14 +3,15 @@ use Rattle.std.specs.Prelude.{◌≡◌, ◌⊎◌, ◌≤◌, ◌<◌, ℕ, ◌
 use Rattle.drda_words.specs.Place.{part}
 use Rattle.drda_disk.specs.Disk.{Life}
 use Rattle.drda_disk.specs.Region.{end_of}
-use Rattle.unit_journal.specs.Journal.{IsSettled, region_of}
+use Rattle.unit_journal.specs.Journal.{IsSettled, held_of, region_of}
 use Rattle.unit_journal.specs.Record.{Entry, laid}
 use Rattle.unit_journal.specs.Stands.{StandsFrom}
 use Rattle.half_store.specs.Active.{Store, active_of}
-use Rattle.half_store.specs.Opened.{IsBehindPages}
+use Rattle.half_store.specs.Opened.{IsBehindPages, store_of}
 use Rattle.half_store.specs.Switching.{switched}
 use Rattle.half_store.specs.Writing.{IsKept, from_of, half_bytes_of, next_of, pages_of}
 use Rattle.half_store.specs.declared.image.ImageWriter.{ImageWriter}
+use Rattle.checkpoint_writer.specs.Errors.{DamagedWhere}
 use Rattle.checkpoint_writer.specs.declared.ending.Switched.{Switched}
 use Rattle.checkpoint_writer.specs.declared.errors.ImageError.{ImageError}
 use Rattle.checkpoint_writer.specs.declared.errors.ImageError.TheVariants.{DeviceFailed, Full}
@@ -47,6 +48,14 @@ pub record IsSwitched (modelled : Bool) (disk : Life) (file : List ℕ) (new : S
 abbrev pub IsBehind : ImageWriter → Switched → Type 0
 IsBehind w s = IsBehindPages (half_bytes_of w) s.active
 
+-- Of any device: the active half is this one, its journal's region is what is left of it behind the image's pages, and so
+-- many bytes are held back there.
+pub record IsActive (w : ImageWriter) (new : Store) (held : ℕ) (s : Switched) : Type 0 where
+  pub store : store_of s.active ≡ new
+  pub behind : IsBehind w s
+  pub held_back : held_of s.journal ≡ held
+  pub ends : end_of (region_of s.journal) ≡ from_of w + half_bytes_of w
+
 -- what holds where nothing was switched and the device did not fail
 abbrev pub OnRefused : {T : Type 0} → Result T ImageError → Type 0 → Type 0
 OnRefused (Ok x) P = Unit {0}
@@ -57,3 +66,8 @@ OnRefused (Err other) P = P
 abbrev pub SaysFull : {T : Type 0} → Result T ImageError → ImageWriter → ℕ → Type 0
 SaysFull (Err (Full full)) w n = (full.room < full.need) × (half_bytes_of w + full.need ≤ 8192 * (1 + pages_of w) + (n + 1) + full.room)
 SaysFull other w n = FitBehind w n
+
+-- what is told of room for so many bytes behind the pages; damage never is
+pub record TellsEnd {T : Type 0} (result : Result T ImageError) (w : ImageWriter) (n : ℕ) : Type 0 where
+  pub full : SaysFull result w n
+  pub damaged : DamagedWhere ⊥ result

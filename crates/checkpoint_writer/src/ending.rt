@@ -1,14 +1,12 @@
 //! Making an image the active half.
-ghost use Rattle.std.specs.Prelude.{◌≡◌, ◌+◌, ◌≤◌, ℕ, List, IfOk, OnOk, length};
+ghost use Rattle.std.specs.Prelude.{◌≡◌, ◌+◌, ◌≤◌, ℕ, List, IfOk, length};
 ghost use Rattle.drda_disk.specs.Disk.{LeavesOnly};
-ghost use Rattle.drda_disk.specs.Region.{end_of};
-ghost use Rattle.unit_journal.specs.Journal.{held_of, region_of};
 ghost use Rattle.unit_journal.specs.Record.{entries_of, laid};
 ghost use Rattle.half_store.specs.Opened.{store_of};
 ghost use Rattle.half_store.specs.Switching.{switched};
 ghost use Rattle.half_store.specs.Writing.{IsWriting, from_of, half_bytes_of, pages_of};
-ghost use Rattle.checkpoint_writer.specs.Errors.{CountsImage, DamagedWhere};
-ghost use Rattle.checkpoint_writer.specs.Moment.{IsBehind, IsSwitched, Moment, OnRefused, SaysFull};
+ghost use Rattle.checkpoint_writer.specs.Errors.{CountsImage};
+ghost use Rattle.checkpoint_writer.specs.Moment.{IsActive, IsSwitched, Moment, OnRefused, TellsEnd};
 
 use crate::ImageError;
 use drda_disk::Disk;
@@ -47,14 +45,10 @@ pub fn finish_image<D: Disk>(
         LeavesOnly (D.life disk.old) (D.life disk.new) (Moment base (D.life disk.old).seen (store_of active.now) image first_catalogue catalogue_pages (entries_of records.now) held) }
     ensures done { IfOk result (λ s. (base : List ℕ) → IsWriting D.is_modelled (D.life disk.old) base (store_of active.now) image →
         IsSwitched D.is_modelled (D.life disk.new) (D.life disk.old).seen (switched (store_of active.now) image first_catalogue catalogue_pages) image s (entries_of records.now) held) }
-    ensures store { IfOk result (λ s. store_of s.active ≡ switched (store_of active.now) image first_catalogue catalogue_pages) }
-    ensures behind { IfOk result (IsBehind image) }
-    ensures held { IfOk result (λ s. held_of s.journal ≡ held) }
-    ensures ends { IfOk result (λ s. end_of (region_of s.journal) ≡ from_of image + half_bytes_of image) }
+    ensures active { IfOk result (IsActive image (switched (store_of active.now) image first_catalogue catalogue_pages) held) }
     ensures size { length (D.life disk.new).seen ≡ length (D.life disk.old).seen }
     ensures refused { OnRefused result ((base : List ℕ) → IsWriting D.is_modelled (D.life disk.old) base (store_of active.now) image → IsWriting D.is_modelled (D.life disk.new) base (store_of active.now) image) }
-    ensures full { SaysFull result image (length (laid (entries_of records.now)) + held) }
-    ensures damaged { DamagedWhere ⊥ result }
+    ensures told { TellsEnd result image (length (laid (entries_of records.now)) + held) }
     ensures cause { CountsImage result (D.life disk.old).faults (D.life disk.new).faults }
 {
     let journal = Journal::lay(alloc, disk, image.finish_pages(), records, held)?;

@@ -5,7 +5,7 @@ ghost use Rattle.std.specs.List.{AllByRecursion};
 ghost use Rattle.half_store.specs.Writing.{from_of, half_bytes_of, next_of};
 ghost use Rattle.table_map.specs.Stored.{IsStored};
 ghost use Rattle.table_map.specs.Table.{rows_of_table, without_keys};
-ghost use Rattle.checkpoint_writer.specs.Adding.{AddsPages, end_of_half};
+ghost use Rattle.checkpoint_writer.specs.Adding.{AddsPages, AreLast, end_of_half};
 ghost use Rattle.checkpoint_writer.specs.Errors.{CountsImage, DamagedWhere, TellsFull};
 ghost use Rattle.checkpoint_writer.specs.Stored.{LieApart, HaveKeys, IsImageOf};
 
@@ -126,8 +126,7 @@ pub fn merge_into<K: RowKeys, D: Disk>(
     requires table { table.now.places.at + 8192 * length table.now.places.keys ≤ length (D.life disk.old).seen }
     requires inside { from_of image.old + half_bytes_of image.old ≤ length (D.life disk.old).seen }
     ensures adds { AddsPages D.is_modelled (D.life disk.old) (D.life disk.new) image.old image.new }
-    ensures at { IfOk result (λ written. written.pages.at ≡ next_of image.old) }
-    ensures pages { IfOk result (λ written. next_of image.new ≡ written.pages.at + 8192 * length written.pages.keys) }
+    ensures last { IfOk result (λ written. AreLast image.old image.new written.pages) }
     ensures rows { (pages : List (List (List ℕ))) → IsTrue D.is_modelled → IsStored (K.key_of keys.now) table.now.places pages (D.life disk.old).seen
         → LieApart table.now.places image.old → HaveKeys (K.key_of keys.now) (rows_of_table (K.key_of keys.now) table.now pages)
         → IfOk result (λ written. IsImageOf (K.key_of keys.now) (rows_of_table (K.key_of keys.now) table.now pages) written.pages (D.life disk.new).seen) }

@@ -13,6 +13,7 @@ use Rattle.table_map.specs.Stored.{Places, IsStored as StandAt}
 use Rattle.table_map.specs.Table.{rows_of_table, without_keys}
 use Rattle.half_store.specs.Writing.{from_of, pages_of}
 use Rattle.half_store.specs.declared.image.ImageWriter.{ImageWriter}
+use Rattle.checkpoint_writer.specs.Adding.{AreLast}
 use Rattle.checkpoint_writer.specs.Catalogue.{Entry}
 use Rattle.checkpoint_writer.specs.Stored.{HaveKeys, IsImageOf, LieApart}
 use Rattle.checkpoint_writer.proofs.MergedRows.{many_keys}
@@ -27,7 +28,7 @@ use Rattle.paged_tables.specs.Stored.{Stored, rows_in, table_in}
 use Rattle.paged_tables.specs.declared.lending.TableRef.{TableRef}
 use Rattle.paged_tables.proofs.Shown.{forms_back}
 use Rattle.paged_checkpoints.specs.Apart.{IsReadable}
-use Rattle.paged_checkpoints.specs.Laying.{AreLast, IsUnder, LaysTable, created_entry}
+use Rattle.paged_checkpoints.specs.Laying.{IsUnder, LaysTable, created_entry}
 use Rattle.paged_checkpoints.proofs.Standing as standing
 
 -- where there are pages, the first one has this number

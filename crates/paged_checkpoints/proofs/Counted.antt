@@ -1,5 +1,5 @@
 -- What a checkpoint needs is counted before it is written: the disk was only read.
-use Rattle.std.proofs.Common.{inl, ℕ, ◌≤◌, Bool, List, length, Result, Ok, Err, sym, ap, subst, ◌∙◌, arith}
+use Rattle.std.proofs.Common.{◌≡◌, inl, ℕ, ◌≤◌, Bool, List, length, Result, Ok, Err, sym, ap, subst, ◌∙◌, arith}
 use Rattle.drda_disk.specs.Disk.{LeavesOnly, Life, Now, Stays}
 use Rattle.drda_disk.specs.Images.{Torn-refl}
 use Rattle.drda_disk.proofs.Moments.{Only-stays, stays_and, stays_leaves}
@@ -8,12 +8,14 @@ use Rattle.half_store.specs.Active.{Store as Opened}
 use Rattle.half_store.specs.Layout.{half_len, offset_of, other_than}
 use Rattle.unit_journal.specs.Record.{Entry}
 use Rattle.tables.specs.Tables.{Store}
+use Rattle.checkpoint_writer.specs.Errors.{DamagedWhere}
 use Rattle.checkpoint_writer.specs.declared.errors.ImageError.{ImageError}
 use Rattle.checkpoint_writer.specs.declared.errors.ImageError.TheVariants.{NoMemory, DeviceFailed, Damaged, Full}
 use Rattle.checkpoints.specs.Moment.{GoesOn, IsOld, Moment, Rests}
 use Rattle.checkpoints.specs.Room.{OnFull, SaysRoom, TellsRoom}
 use Rattle.paged_tables.specs.TablesByName.{Tables}
 use Rattle.paged_checkpoints.specs.Apart.{StandApart}
+use Rattle.paged_checkpoints.specs.Written.{TellsExactly, TellsWriting}
 
 module _ (modelled : Bool) (old mid : Life) (stays : Stays old mid) (store : Opened) where
   pub rests_still : Rests modelled old store → Rests modelled mid store
@@ -51,16 +53,30 @@ module _ (modelled : Bool) (old mid : Life) (stays : Stays old mid) (store : Ope
 -- ---- what is told of room
 
 -- what fits is never told to have no room
-pub says_room : {T : Type 0} (result : Result T ImageError) (need room : ℕ) → need ≤ room → TellsRoom result need room → SaysRoom result need room
+says_room : {T : Type 0} (result : Result T ImageError) (need room : ℕ) → need ≤ room → TellsRoom result need room → SaysRoom result need room
 says_room (Ok x) need room fits told = told
 says_room (Err NoMemory) need room fits told = tt
 says_room (Err DeviceFailed) need room fits told = tt
 says_room (Err Damaged) need room fits told = tt
 says_room (Err (Full full)) need room fits told = absurd (omega (arith, fits, told.0, told.1))
 
-pub never_full : {T : Type 0} (P : Type 0) (result : Result T ImageError) (need room : ℕ) → need ≤ room → TellsRoom result need room → OnFull result P
+never_full : {T : Type 0} (P : Type 0) (result : Result T ImageError) (need room : ℕ) → need ≤ room → TellsRoom result need room → OnFull result P
 never_full P (Ok x) need room fits told = tt
 never_full P (Err NoMemory) need room fits told = tt
 never_full P (Err DeviceFailed) need room fits told = tt
 never_full P (Err Damaged) need room fits told = tt
 never_full P (Err (Full full)) need room fits told = absurd (omega (arith, fits, told.0, told.1))
+
+-- what is told of room before anything is written
+pub told_before : {S : Type 0} (e : ImageError) (result : Result S ImageError) (need room : ℕ) (P : Type 0) → result ≡ Err e → P → SaysRoom {T = Unit {0}} (Err e) need room → DamagedWhere {T = Unit {0}} ⊥ (Err e) → TellsExactly result need room P
+told_before {S = S} e result need room P is rests says whole = subst (λ (r : Result S ImageError). TellsExactly r need room P) (sym is) (by_error e says whole)
+  where
+    by_error : (f : ImageError) → SaysRoom {T = Unit {0}} (Err f) need room → DamagedWhere {T = Unit {0}} ⊥ (Err f) → TellsExactly {T = S} (Err f) need room P
+    by_error NoMemory so never = record { full = tt; unwritten = tt; damaged = tt }
+    by_error DeviceFailed so never = record { full = tt; unwritten = tt; damaged = tt }
+    by_error Damaged so never = record { full = tt; unwritten = tt; damaged = never }
+    by_error (Full full) so never = record { full = so; unwritten = rests; damaged = tt }
+
+-- and where there is
+pub told_then : {T : Type 0} (result : Result T ImageError) (need room : ℕ) (P : Type 0) → need ≤ room → TellsWriting result need room → TellsExactly result need room P
+told_then result need room P fits told = record { full = says_room result need room fits told.full; unwritten = never_full P result need room fits told.full; damaged = told.damaged }

@@ -1,8 +1,8 @@
 -- Tables over pages that are laid anew.
-use Rattle.std.specs.Prelude.{◌≡◌, ℕ, ◌+◌, ◌*◌, List, length, map}
+use Rattle.std.specs.Prelude.{◌≡◌, ℕ, ◌+◌, List, map}
 use Rattle.tables.specs.Tables.{Store, Table}
 use Rattle.table_map.specs.Stored.{Places}
-use Rattle.half_store.specs.Writing.{from_of, next_of, pages_of}
+use Rattle.half_store.specs.Writing.{from_of, pages_of}
 use Rattle.half_store.specs.declared.image.ImageWriter.{ImageWriter}
 use Rattle.checkpoint_writer.specs.Catalogue.{Entry}
 use Rattle.store_check.specs.Checkpoint.{forms}
@@ -34,8 +34,3 @@ pub record LaysTable (file : List ℕ) (w after : ImageWriter) (e : List ℕ × 
   pub many : pages_of after ≡ pages_of w + pages_of_table e.1
   pub written : IsWritten forms file (from_of w + 8192) (laid_at (from_of w + 8192) (pages_of w) e)
   pub places_are : pages ≡ (laid_at (from_of w + 8192) (pages_of w) e).places
-
--- these pages were added to an image, and no others
-pub record AreLast (w after : ImageWriter) (pages : Places) : Type 0 where
-  pub at : pages.at ≡ next_of w
-  pub next : next_of after ≡ pages.at + 8192 * length pages.keys

@@ -1,3 +1,4 @@
 pub mod Opening
 pub mod Apart
 pub mod Laying
+pub mod Written

@@ -1,5 +1,5 @@
 //! The room that a checkpoint needs, counted before any of it is written.
-ghost use Rattle.std.specs.Prelude.{◌≡◌, ◌+◌, ◌*◌, ◌≤◌, ◌∷◌, ℕ, List, true, IsTrue, IfOk, OnOk, length};
+ghost use Rattle.std.specs.Prelude.{◌≡◌, ◌+◌, ◌*◌, ◌≤◌, ◌∷◌, [], ℕ, List, true, IsTrue, IfOk, OnOk, length};
 ghost use Rattle.drda_disk.specs.Disk.{Stays};
 ghost use Rattle.row_pages.specs.Keeping.{CountsPageFault};
 ghost use Rattle.row_pages.specs.Laying.{counted, pages_with};
@@ -61,14 +61,58 @@ fn count_table<D: Disk>(
     }
 }
 
-/// The bytes of a half with so many pages of tables and of their catalogue, so many bytes of records and so many held
-/// back, up to 2^64 - 1.
-fn half_with(tables: usize, catalogue: usize, records: usize, held: usize) -> usize
-    ensures { result ≡ counted (8192 * (1 + tables + catalogue) + (records + held + 1)) }
+/// Counts the pages that one table more takes at most, and its row of the catalogue. No page is read.
+fn count_most(
+    alloc: Global,
+    table: TableRef<'_>,
+    pages: &mut CountedPages,
+) -> Result<(), AllocError>
+    requires { is_name table.name.now ≡ true }
+    ensures tables { (e : List ℕ × Stored) (file : List ℕ) → IsLent e table.entry → IsOnPages file e.1
+        → OnOk result (counted (pages.old.tables + pages_of_table (table_in e.1)) ≤ pages.new.tables) }
+    ensures catalogue { (e : List ℕ × Stored) (next : ℕ) (rows : List (List ℕ)) → IsLent e table.entry
+        → OnOk result (pages_with pages.new.catalogue rows ≡ pages_with pages.old.catalogue (entry_bytes (entry_of_table next (created_entry e)) ∷ rows)) }
 {
-    let pages = tables.saturating_add(catalogue).saturating_add(1);
+    rows_have_their_forms();
+    let TableRef { name, schema, rows } = table;
+    let _columns = schema.columns();
+    pages.tables = pages.tables.saturating_add(rows.most_pages());
+    count_entry(alloc, &mut pages.catalogue, name, schema)?;
+    Ok(())
+}
+
+/// The bytes of a half with the pages that were counted, so many bytes of records and so many held back, up to 2^64 - 1.
+fn half_with(pages: &CountedPages, records: usize, held: usize) -> usize
+    ensures { result ≡ counted (8192 * (1 + pages.now.tables + pages_with pages.now.catalogue []) + (records + held + 1)) }
+{
+    let pages = pages
+        .tables
+        .saturating_add(pages.catalogue.pages())
+        .saturating_add(1);
     let behind = records.saturating_add(held).saturating_add(1);
     pages.saturating_mul(PAGE_BYTES).saturating_add(behind)
+}
+
+/// At most so many bytes a half takes with all tables that are left to lend, with these records and with so many bytes
+/// held back, up to 2^64 - 1 (`TableMap::most_pages`). No page is read.
+pub(crate) fn most_bytes(
+    alloc: Global,
+    tables: TablesLeft<'_>,
+    records: &[Record],
+    held: usize,
+) -> Result<usize, AllocError>
+    requires { is_store (all_shown tables) ≡ true }
+    ensures { (file : List ℕ) → AreOnPages file tables.entry → IfOk result (λ most. counted (need_of (all_shown tables.entry) (entries_of records.now) held) ≤ most) }
+{
+    let mut left = tables;
+    let mut pages = CountedPages {
+        tables: 0,
+        catalogue: PageCount::new(),
+    };
+    while let Some(table) = left.next_table() {
+        count_most(alloc, table, &mut pages)?;
+    }
+    Ok(half_with(&pages, laid_len(records), held))
 }
 
 /// The bytes that a half takes with all tables that are left to lend, with these records and with so many bytes held back,
@@ -96,10 +140,5 @@ pub(crate) fn needed_bytes<D: Disk>(
     while let Some(table) = left.next_table() {
         count_table(alloc, disk, table, &mut pages)?;
     }
-    Ok(half_with(
-        pages.tables,
-        pages.catalogue.pages(),
-        laid_len(records),
-        held,
-    ))
+    Ok(half_with(&pages, laid_len(records), held))
 }

@@ -6,6 +6,7 @@
 mod counting;
 mod opening;
 mod pages;
+mod room;
 mod table_pages;
 mod writing;
 

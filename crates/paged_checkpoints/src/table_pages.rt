@@ -1,21 +1,17 @@
 //! Writing tables one behind another.
-ghost use Rattle.std.specs.Prelude.{◌≡◌, ◌+◌, ◌*◌, ◌≤◌, ◌++◌, ◌∷◌, ◌==◌, [], ℕ, List, true, OnOk, IfOk, IfErr, length, map, if◌then◌else◌};
-ghost use Rattle.std.specs.List.{AllByRecursion};
-ghost use Rattle.half_store.specs.Writing.{from_of, half_bytes_of, next_of, pages_of};
-ghost use Rattle.tables.specs.View.{is_store};
+ghost use Rattle.std.specs.Prelude.{◌≡◌, ◌+◌, ◌*◌, ◌≤◌, ◌++◌, ◌∷◌, ◌==◌, [], ℕ, List, OnOk, IfOk, IfErr, length, if◌then◌else◌};
+ghost use Rattle.half_store.specs.Writing.{from_of, half_bytes_of, next_of};
 ghost use Rattle.checkpoint_writer.specs.Adding.{AddsPages, end_of_half};
-ghost use Rattle.checkpoint_writer.specs.Catalogue.{HaveNames, place_of};
+ghost use Rattle.checkpoint_writer.specs.Catalogue.{place_of};
 ghost use Rattle.checkpoint_writer.specs.Errors.{CountsImage, DamagedWhere, TellsFull};
 ghost use Rattle.checkpoint_writer.specs.declared.errors.ImageError.TheVariants.{NoMemory};
-ghost use Rattle.store_check.specs.Checkpoint.{forms};
-ghost use Rattle.store_check.specs.Written.{IsWritten};
-ghost use Rattle.checkpoints.specs.Laying.{IsGood, laid_from};
-ghost use Rattle.checkpoints.specs.Room.{entries_from, pages_of_table, pages_of_tables};
+ghost use Rattle.checkpoints.specs.Laying.{IsGood};
+ghost use Rattle.checkpoints.specs.Room.{pages_of_table, pages_of_tables};
 ghost use Rattle.paged_tables.specs.Lending.{IsLent};
 ghost use Rattle.paged_tables.specs.Stored.{Stored, table_in};
-ghost use Rattle.paged_tables.specs.TablesByName.{LieInside};
-ghost use Rattle.paged_checkpoints.specs.Apart.{AreReadable, IsReadable, LiesFrom};
-ghost use Rattle.paged_checkpoints.specs.Laying.{AreLast, IsUnder, LaysTable, all_shown, created_entry, places_from};
+ghost use Rattle.paged_checkpoints.specs.Apart.{AreReadable, IsReadable};
+ghost use Rattle.paged_checkpoints.specs.Laying.{IsUnder, LaysTable, all_shown, created_entry};
+ghost use Rattle.paged_checkpoints.specs.Written.{AreListed, AreWritten, IsBegun, IsLast, TellsPages};
 
 use checkpoint_writer::{ImageError, TablePlace, merge_into};
 use drda_disk::Disk;
@@ -57,9 +53,8 @@ fn write_table<'a, D: Disk>(
     requires inside { from_of image.old + half_bytes_of image.old ≤ length (D.life disk.old).seen }
     requires table { table.rows.now.places.at + 8192 * length table.rows.now.places.keys ≤ length (D.life disk.old).seen }
     ensures adds { AddsPages D.is_modelled (D.life disk.old) (D.life disk.new) image.old image.new }
-    ensures name { IfOk result (λ laid. (place_of laid.place).name ≡ table.entry.name.now) }
     ensures under { (e : List ℕ × Stored) → IsLent e table.entry → OnOk result (IsUnder e) }
-    ensures last { IfOk result (λ laid. AreLast image.old image.new laid.pages) }
+    ensures last { IfOk result (λ laid. IsLast image.old image.new table.entry.name.now laid) }
     ensures laid { (e : List ℕ × Stored) → IsLent e table.entry → IsGood (created_entry e) → IsReadable D.is_modelled (D.life disk.old).seen image.old e.1
         → IfOk result (λ laid. LaysTable (D.life disk.new).seen image.old image.new (created_entry e) (place_of laid.place) laid.pages) }
     ensures full { (e : List ℕ × Stored) → IsLent e table.entry → IsReadable D.is_modelled (D.life disk.old).seen image.old e.1
@@ -109,22 +104,11 @@ pub(crate) fn write_tables<'a, D: Disk>(
     image: &mut ImageWriter,
     tables: TablesLeft<'a>,
 ) -> Result<LaidTables<'a>, ImageError>
-    requires none { pages_of image.old ≡ 0 }
-    requires inside { from_of image.old + half_bytes_of image.old ≤ length (D.life disk.old).seen }
-    requires tables { LieInside (length (D.life disk.old).seen) tables }
-    requires store { is_store (all_shown tables) ≡ true }
+    requires { IsBegun (length (D.life disk.old).seen) image.old tables }
     ensures adds { AddsPages D.is_modelled (D.life disk.old) (D.life disk.new) image.old image.new }
-    ensures names { IfOk result (λ laid. HaveNames (map place_of laid.places.items)) }
-    ensures under { OnOk result (AllByRecursion IsUnder tables.entry) }
-    ensures lie { IfOk result (λ laid. AllByRecursion (LiesFrom (next_of image.old) (next_of image.new)) laid.pages.items) }
-    ensures count { IfOk result (λ laid. length laid.pages.items ≡ length tables.entry) }
-    ensures places { AreReadable D.is_modelled (D.life disk.old).seen image.old tables.entry → IfOk result (λ laid. map place_of laid.places.items ≡ entries_from 0 (all_shown tables.entry)) }
-    ensures pages { AreReadable D.is_modelled (D.life disk.old).seen image.old tables.entry → OnOk result (pages_of image.new ≡ pages_of_tables (all_shown tables.entry)) }
-    ensures laid { AreReadable D.is_modelled (D.life disk.old).seen image.old tables.entry → IfOk result (λ laid. laid.pages.items ≡ places_from (from_of image.old + 8192) 0 (all_shown tables.entry)) }
-    ensures written { AreReadable D.is_modelled (D.life disk.old).seen image.old tables.entry
-        → OnOk result (AllByRecursion (IsWritten forms (D.life disk.new).seen (from_of image.old + 8192)) (laid_from (from_of image.old + 8192) 0 (all_shown tables.entry))) }
-    ensures full { AreReadable D.is_modelled (D.life disk.old).seen image.old tables.entry → TellsFull result (end_of_half image.old) (next_of image.old + 8192 * pages_of_tables (all_shown tables.entry)) }
-    ensures damaged { AreReadable D.is_modelled (D.life disk.old).seen image.old tables.entry → DamagedWhere ⊥ result }
+    ensures listed { IfOk result (AreListed image.old image.new tables.entry) }
+    ensures written { AreReadable D.is_modelled (D.life disk.old).seen image.old tables.entry → IfOk result (AreWritten (D.life disk.new).seen image.old image.new tables.entry) }
+    ensures told { AreReadable D.is_modelled (D.life disk.old).seen image.old tables.entry → TellsPages result (end_of_half image.old) (next_of image.old + 8192 * pages_of_tables (all_shown tables.entry)) }
     ensures cause { CountsImage result (D.life disk.old).faults (D.life disk.new).faults }
 {
     let mut left = tables;

@@ -1,30 +1,25 @@
 //! Writing a checkpoint.
-ghost use Rattle.std.specs.Prelude.{◌≡◌, ◌⊎◌, ◌+◌, ◌*◌, ◌≤◌, ℕ, List, true, IsTrue, IfOk, length};
-ghost use Rattle.std.specs.List.{AllByRecursion};
+ghost use Rattle.std.specs.Prelude.{◌≡◌, ℕ, List, IsTrue, IfOk, length};
 ghost use Rattle.drda_disk.specs.Disk.{LeavesOnly, Now, Stays};
-ghost use Rattle.drda_disk.specs.Region.{end_of};
 ghost use Rattle.half_store.specs.Layout.{half_len, is_store_size};
 ghost use Rattle.half_store.specs.Opened.{store_of};
-ghost use Rattle.half_store.specs.Writing.{IsWriting, from_of, half_bytes_of, pages_of};
-ghost use Rattle.tables.specs.View.{is_store};
-ghost use Rattle.unit_journal.specs.Journal.{held_of, region_of};
+ghost use Rattle.half_store.specs.Writing.{IsWriting, half_bytes_of};
 ghost use Rattle.unit_journal.specs.Record.{entries_of};
-ghost use Rattle.checkpoint_writer.specs.Errors.{CountsImage, DamagedWhere};
+ghost use Rattle.checkpoint_writer.specs.Errors.{CountsImage};
 ghost use Rattle.checkpoint_writer.specs.Moment.{OnRefused};
-ghost use Rattle.store_check.specs.Half.{pages_of as pages_of_active};
-ghost use Rattle.checkpoints.specs.Moment.{GoesOn, IsAnew, IsOld, Moment, Rests};
-ghost use Rattle.checkpoints.specs.Room.{OnFull, SaysRoom, TellsRoom, need_of};
+ghost use Rattle.checkpoints.specs.Moment.{GoesOn, IsOld, Moment, Rests};
+ghost use Rattle.checkpoints.specs.Room.{need_of};
 ghost use Rattle.paged_tables.specs.PagedTables.{store_in};
-ghost use Rattle.paged_tables.specs.Stored.{IsOnPages, LiesInside, LiesOutside};
-ghost use Rattle.paged_tables.specs.TablesByName.{AreLaid, LieInside, created_of};
-ghost use Rattle.paged_checkpoints.specs.Apart.{AreReadable, LiesAmong, StandApart};
+ghost use Rattle.paged_tables.specs.TablesByName.{LieInside, created_of};
+ghost use Rattle.paged_checkpoints.specs.Apart.{AreReadable, StandApart};
 ghost use Rattle.paged_checkpoints.specs.Laying.{all_shown};
+ghost use Rattle.paged_checkpoints.specs.Written.{IsBegun, IsLaidAnew, IsLaidIn, StandsAnew, TellsExactly, TellsWriting};
 
-use crate::counting::needed_bytes;
 use crate::pages::write_pages;
+use crate::room::check_room;
 use checkpoint_writer::{ImageError, Switched, finish_image};
 use drda_disk::Disk;
-use half_store::{Active, Full, ImageWriter, begin_image, half_bytes};
+use half_store::{Active, ImageWriter, begin_image};
 use paged_tables::{PagedTables, TablesLeft};
 use std::alloc::Global;
 use store_check::checkpoints_are_known;
@@ -49,27 +44,16 @@ fn write_image<'a, D: Disk>(
     records: &[Record],
     held: usize,
 ) -> Result<Relaid, ImageError>
-    requires none { pages_of image ≡ 0 }
-    requires inside { from_of image + half_bytes_of image ≤ length (D.life disk.old).seen }
-    requires tables { LieInside (length (D.life disk.old).seen) tables }
-    requires store { is_store (all_shown tables) ≡ true }
+    requires { IsBegun (length (D.life disk.old).seen) image tables }
     ensures any_moment { AreReadable D.is_modelled (D.life disk.old).seen image tables.entry → (base : List ℕ) → IsWriting D.is_modelled (D.life disk.old) base (store_of active.now) image →
         LeavesOnly (D.life disk.old) (D.life disk.new) (Moment base (store_of active.now) (all_shown tables.entry) (entries_of records.now) held) }
     ensures done { IfOk result (λ r. AreReadable D.is_modelled (D.life disk.old).seen image tables.entry → (base : List ℕ) → IsWriting D.is_modelled (D.life disk.old) base (store_of active.now) image →
-        IsAnew D.is_modelled (D.life disk.new) base (store_of active.now) (all_shown tables.entry) (entries_of records.now) held r.switched) }
-    ensures stand { IfOk result (λ r. AreReadable D.is_modelled (D.life disk.old).seen image tables.entry → (base : List ℕ) → IsWriting D.is_modelled (D.life disk.old) base (store_of active.now) image →
-        AreLaid (IsOnPages (D.life disk.new).seen) r.pages.items tables.entry) }
+        StandsAnew D.is_modelled (D.life disk.new) base (store_of active.now) (all_shown tables.entry) tables.entry (entries_of records.now) held r) }
     ensures refused { OnRefused result ((base : List ℕ) → IsWriting D.is_modelled (D.life disk.old) base (store_of active.now) image →
         (c : List ℕ) → Now (D.life disk.new) c → IsOld base (store_of active.now) c) }
-    ensures count { IfOk result (λ r. length r.pages.items ≡ length tables.entry) }
-    ensures among { IfOk result (λ r. AllByRecursion (LiesAmong (pages_of_active r.switched.active)) r.pages.items) }
-    ensures pages { IfOk result (λ r. 8192 * r.switched.active.pages ≤ r.switched.active.region.at) }
-    ensures front { IfOk result (λ r. r.switched.active.region.at ≤ from_of image + half_bytes_of image) }
-    ensures held { IfOk result (λ r. held_of r.switched.journal ≡ held) }
-    ensures ends { IfOk result (λ r. end_of (region_of r.switched.journal) ≡ from_of image + half_bytes_of image) }
+    ensures laid { IfOk result (IsLaidIn image tables.entry held) }
     ensures size { length (D.life disk.new).seen ≡ length (D.life disk.old).seen }
-    ensures full { AreReadable D.is_modelled (D.life disk.old).seen image tables.entry → TellsRoom result (need_of (all_shown tables.entry) (entries_of records.now) held) (half_bytes_of image) }
-    ensures damaged { AreReadable D.is_modelled (D.life disk.old).seen image tables.entry → DamagedWhere ⊥ result }
+    ensures told { AreReadable D.is_modelled (D.life disk.old).seen image tables.entry → TellsWriting result (need_of (all_shown tables.entry) (entries_of records.now) held) (half_bytes_of image) }
     ensures cause { CountsImage result (D.life disk.old).faults (D.life disk.new).faults }
 {
     checkpoints_are_known();
@@ -100,21 +84,11 @@ fn write_half<D: Disk>(
     ensures any_moment { Rests D.is_modelled (D.life disk.old) (store_of active.now) → StandApart D.is_modelled (D.life disk.old).seen (store_of active.now) tables.now.tables →
         LeavesOnly (D.life disk.old) (D.life disk.new) (Moment (D.life disk.old).seen (store_of active.now) (store_in tables.now) (entries_of records.now) held) }
     ensures done { IfOk result (λ r. Rests D.is_modelled (D.life disk.old) (store_of active.now) → StandApart D.is_modelled (D.life disk.old).seen (store_of active.now) tables.now.tables →
-        IsAnew D.is_modelled (D.life disk.new) (D.life disk.old).seen (store_of active.now) (store_in tables.now) (entries_of records.now) held r.switched) }
-    ensures stand { IfOk result (λ r. Rests D.is_modelled (D.life disk.old) (store_of active.now) → StandApart D.is_modelled (D.life disk.old).seen (store_of active.now) tables.now.tables →
-        AreLaid (IsOnPages (D.life disk.new).seen) r.pages.items (created_of tables.now.tables)) }
+        StandsAnew D.is_modelled (D.life disk.new) (D.life disk.old).seen (store_of active.now) (store_in tables.now) (created_of tables.now.tables) (entries_of records.now) held r) }
     ensures goes_on { OnRefused result (Rests D.is_modelled (D.life disk.old) (store_of active.now) → GoesOn (D.life disk.new) (D.life disk.old).seen (store_of active.now)) }
-    ensures count { IfOk result (λ r. length r.pages.items ≡ length (store_in tables.now)) }
-    ensures inside_half { IfOk result (λ r. AreLaid (LiesInside r.switched.active.region.at) r.pages.items (created_of tables.now.tables)) }
-    ensures apart { IfOk result (λ r. (from end : ℕ) → (r.switched.active.region.at ≤ from) ⊎ (end + 8192 * r.switched.active.pages ≤ r.switched.active.region.at) → AreLaid (LiesOutside from end) r.pages.items (created_of tables.now.tables)) }
-    ensures among { IfOk result (λ r. AllByRecursion (LiesAmong (pages_of_active r.switched.active)) r.pages.items) }
-    ensures pages { IfOk result (λ r. 8192 * r.switched.active.pages ≤ r.switched.active.region.at) }
-    ensures front { IfOk result (λ r. r.switched.active.region.at ≤ length (D.life disk.new).seen) }
-    ensures held { IfOk result (λ r. held_of r.switched.journal ≡ held) }
-    ensures inside { IfOk result (λ r. end_of (region_of r.switched.journal) ≤ length (D.life disk.new).seen) }
+    ensures laid { IfOk result (IsLaidAnew tables.now held (length (D.life disk.new).seen)) }
     ensures size { length (D.life disk.new).seen ≡ length (D.life disk.old).seen }
-    ensures full { StandApart D.is_modelled (D.life disk.old).seen (store_of active.now) tables.now.tables → TellsRoom result (need_of (store_in tables.now) (entries_of records.now) held) (half_len (length (D.life disk.old).seen)) }
-    ensures damaged { StandApart D.is_modelled (D.life disk.old).seen (store_of active.now) tables.now.tables → DamagedWhere ⊥ result }
+    ensures told { StandApart D.is_modelled (D.life disk.old).seen (store_of active.now) tables.now.tables → TellsWriting result (need_of (store_in tables.now) (entries_of records.now) held) (half_len (length (D.life disk.old).seen)) }
     ensures cause { CountsImage result (D.life disk.old).faults (D.life disk.new).faults }
 {
     let image = begin_image(disk, active)?;
@@ -166,30 +140,14 @@ pub fn write_checkpoint<D: Disk>(
     ensures any_moment { Rests D.is_modelled (D.life disk.old) (store_of active.now) → StandApart D.is_modelled (D.life disk.old).seen (store_of active.now) tables.now.tables →
         LeavesOnly (D.life disk.old) (D.life disk.new) (Moment (D.life disk.old).seen (store_of active.now) (store_in tables.now) (entries_of records.now) held) }
     ensures done { IfOk result (λ r. Rests D.is_modelled (D.life disk.old) (store_of active.now) → StandApart D.is_modelled (D.life disk.old).seen (store_of active.now) tables.now.tables →
-        IsAnew D.is_modelled (D.life disk.new) (D.life disk.old).seen (store_of active.now) (store_in tables.now) (entries_of records.now) held r.switched) }
-    ensures stand { IfOk result (λ r. Rests D.is_modelled (D.life disk.old) (store_of active.now) → StandApart D.is_modelled (D.life disk.old).seen (store_of active.now) tables.now.tables →
-        AreLaid (IsOnPages (D.life disk.new).seen) r.pages.items (created_of tables.now.tables)) }
+        StandsAnew D.is_modelled (D.life disk.new) (D.life disk.old).seen (store_of active.now) (store_in tables.now) (created_of tables.now.tables) (entries_of records.now) held r) }
     ensures goes_on { OnRefused result (Rests D.is_modelled (D.life disk.old) (store_of active.now) → GoesOn (D.life disk.new) (D.life disk.old).seen (store_of active.now)) }
-    // One list of pages for each table that is created, all of them among the pages of the new half: they end in front of
-    // its journal, and lie outside of what ends in front of its pages or begins behind them.
-    ensures count { IfOk result (λ r. length r.pages.items ≡ length (store_in tables.now)) }
-    ensures inside_half { IfOk result (λ r. AreLaid (LiesInside r.switched.active.region.at) r.pages.items (created_of tables.now.tables)) }
-    ensures apart { IfOk result (λ r. (from end : ℕ) → (r.switched.active.region.at ≤ from) ⊎ (end + 8192 * r.switched.active.pages ≤ r.switched.active.region.at) → AreLaid (LiesOutside from end) r.pages.items (created_of tables.now.tables)) }
-    ensures among { IfOk result (λ r. AllByRecursion (LiesAmong (pages_of_active r.switched.active)) r.pages.items) }
-    ensures pages { IfOk result (λ r. 8192 * r.switched.active.pages ≤ r.switched.active.region.at) }
-    ensures front { IfOk result (λ r. r.switched.active.region.at ≤ length (D.life disk.new).seen) }
-    ensures held { IfOk result (λ r. held_of r.switched.journal ≡ held) }
-    ensures inside { IfOk result (λ r. end_of (region_of r.switched.journal) ≤ length (D.life disk.new).seen) }
+    ensures laid { IfOk result (IsLaidAnew tables.now held (length (D.life disk.new).seen)) }
     ensures size { length (D.life disk.new).seen ≡ length (D.life disk.old).seen }
-    ensures full { StandApart D.is_modelled (D.life disk.old).seen (store_of active.now) tables.now.tables → SaysRoom result (need_of (store_in tables.now) (entries_of records.now) held) (half_len (length (D.life disk.old).seen)) }
-    ensures unwritten { StandApart D.is_modelled (D.life disk.old).seen (store_of active.now) tables.now.tables → OnFull result (Stays (D.life disk.old) (D.life disk.new)) }
-    ensures damaged { StandApart D.is_modelled (D.life disk.old).seen (store_of active.now) tables.now.tables → DamagedWhere ⊥ result }
+    ensures told { StandApart D.is_modelled (D.life disk.old).seen (store_of active.now) tables.now.tables
+        → TellsExactly result (need_of (store_in tables.now) (entries_of records.now) held) (half_len (length (D.life disk.old).seen)) (Stays (D.life disk.old) (D.life disk.new)) }
     ensures cause { CountsImage result (D.life disk.old).faults (D.life disk.new).faults }
 {
-    let need = needed_bytes(alloc, disk, tables.lend(), records, held)?;
-    let room = half_bytes(disk.size());
-    if need > room {
-        return Err(ImageError::Full(Full { need, room }));
-    }
+    check_room(alloc, disk, tables, records, held)?;
     write_half(alloc, disk, active, tables, records, held)
 }

@@ -1,3 +1,4 @@
+mod Bounded
 pub mod Damaged
 mod Found
 mod Given

@@ -4,6 +4,7 @@ pub mod Keyed
 pub mod Lending
 pub mod Passing
 pub mod Places
+pub mod Room
 pub mod Stored
 pub mod Table
 pub mod Walk

@@ -11,6 +11,7 @@ mod noted;
 mod opening;
 mod page_scan;
 mod pages;
+mod room;
 mod scan;
 mod schema_keys;
 mod table;

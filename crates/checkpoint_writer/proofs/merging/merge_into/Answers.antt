@@ -120,8 +120,8 @@ returns-clause-adds g c =
     and_more modelled (life c.args.disk.now) (life c.loop-writer.disk) (life c.finish.new.disk) c.args.image.now c.loop-writer.image c.finish.new.image c.loop-writer.invariant.adds
     (and_more modelled (life c.loop-writer.disk) (life c.next.new.disk) (life c.finish.new.disk) c.loop-writer.image c.loop-writer.image c.finish.new.image (reads modelled (life c.loop-writer.disk) (life c.next.new.disk) c.loop-writer.image c.next.ensures.stays) c.finish.ensures.adds)
 
-pub returns-clause-pages : goal.returns-clause-pages
-returns-clause-pages g c =
+pub returns-clause-last : goal.returns-clause-last
+returns-clause-last g c =
     let inv = c.loop-writer.invariant in
     let key_of = g.K.RowKeys.key_of c.args.keys.now in
     let first = (g.D.Disk.life c.args.disk.now).seen in
@@ -130,7 +130,7 @@ returns-clause-pages g c =
     let there = same_file g.D.Disk.is_modelled key_of c.args.table.now first c.args.image.now file c.loop-writer.image c.loop-writer.writer c.loop-writer.cursor inv.merges.held mid c.next.ensures.stays.same in
     let count : length c.new-2.result.keys ≡ length (laid inv.merges.held.rows) = ap (λ (p : Places). length p.keys) c.new-2.ensures ∙ ap length there.keys ∙ many_keys key_of (laid inv.merges.held.rows) in
     let at : c.new-2.result.at ≡ next_of c.args.image.now = ap (λ (p : Places). p.at) c.new-2.ensures ∙ inv.at in
-    omega (arith, at, count, c.in_ok-finish.ensures.pages (next_of c.args.image.now) inv.merges.held.rows there.laying)
+    record { at = at; next = omega (arith, at, count, c.in_ok-finish.ensures.pages (next_of c.args.image.now) inv.merges.held.rows there.laying) }
 
 pub returns-clause-rows : goal.returns-clause-rows
 returns-clause-rows g c pages honest is apart own =

@@ -10,7 +10,6 @@ use Rattle.checkpoints.specs.Room.{pages_of_table}
 use Rattle.checkpoints.proofs.Moving.{told_wider}
 use Rattle.paged_tables.specs.Stored.{table_in}
 use Rattle.key_map.specs.RowForm.{row_form}
-use Rattle.paged_checkpoints.specs.Laying.{AreLast}
 use Rattle.paged_checkpoints.proofs.Anew.{apart, count, have, is_under, lays, pages_then, short, stands}
 use Rattle.paged_checkpoints.proofs.table_pages.write_table.Goals as goal
 
@@ -53,7 +52,7 @@ returns-clause-laid g c e is named readable =
     let image =
     c.in_ok-noted.ensures.rows readable.stand.pages readable.modelled_disk (stands law modelled file w e c.args.table is good readable) (apart law modelled file w e c.args.table is good readable)
     (have law modelled file w e c.args.table is good readable) in
-    let last : AreLast w after written = record { at = c.in_ok-noted.ensures.at; next = c.in_ok-noted.ensures.pages } in
+    let last = c.in_ok-noted.ensures.last in
     let from = same_from w after c.merge_into.ensures.adds.half c.merge_into.ensures.adds.half_bytes in
     let then : pages_of after ≡ pages_of w + pages_of_table (table_in e.1) = pages_then law modelled file w e c.args.table is good readable new after written named image last from in
     let many : c.pages.result - c.pages-first.result ≡ pages_of_table (table_in e.1) = omega (arith, c.pages.ensures, c.pages-first.ensures, then) in

@@ -26,7 +26,7 @@ pub loop-table-init : goal.loop-table-init
 loop-table-init g c = record {
   adds = no_page g.D.Disk.is_modelled (g.D.Disk.life c.args.disk.now) c.args.image.now;
   faults = refl;
-  inside = c.requires.tables;
+  inside = c.requires.lie;
   good = good_all (all_shown c.args.tables) c.requires.store;
   names = subst (λ (l : List TablePlace). HaveNames (map place_of l)) (sym c.new.ensures.items) tt;
   under = λ all. all;
@@ -42,8 +42,8 @@ returns-in_err-written-clause-adds g c =
     let life = g.D.Disk.life in
     and_more g.D.Disk.is_modelled (life c.args.disk.now) (life c.loop-table.disk) (life c.write_table.new.disk) c.args.image.now c.loop-table.image c.write_table.new.image c.loop-table.invariant.adds c.write_table.ensures.adds
 
-pub returns-in_err-written-clause-full : goal.returns-in_err-written-clause-full
-returns-in_err-written-clause-full g c readable =
+pub returns-in_err-written-clause-told : goal.returns-in_err-written-clause-told
+returns-in_err-written-clause-told g c readable =
     let inv = c.loop-table.invariant in
     let modelled = g.D.Disk.is_modelled in
     let file = (g.D.Disk.life c.loop-table.disk).seen in
@@ -52,19 +52,15 @@ returns-in_err-written-clause-full g c readable =
     let lent = c.in-Some.ensures in
     let far = (inv.laid readable).far in
     let room = room_left modelled file begun c.loop-table.image _ (all_shown c.loop-table.left) (all_shown c.args.tables) far (created_entry lent.0) (all_shown c.next_table.new.self) (ap all_shown lent.2) in
-    told_wider c.in_err-written.field-0.0 c.write_table.result c.from_residual.result (end_of_half c.loop-table.image) (end_of_half begun) (next_of c.loop-table.image + 8192 * pages_of_table (table_in lent.0.1))
-    (next_of begun + 8192 * pages_of_tables (all_shown c.args.tables)) (search rules) (search rules) (ap₂ (λ a b. a + b) from inv.adds.half_bytes) (omega (arith, from, room))
-    (c.write_table.ensures.full lent.0 lent.1 (one_readable modelled file c.loop-table.image c.loop-table.left lent.0 c.next_table.new.self lent.2 (inv.readable readable)))
-
-pub returns-in_err-written-clause-damaged : goal.returns-in_err-written-clause-damaged
-returns-in_err-written-clause-damaged g c readable =
-    let inv = c.loop-table.invariant in
-    let modelled = g.D.Disk.is_modelled in
-    let file = (g.D.Disk.life c.loop-table.disk).seen in
-    let lent = c.in-Some.ensures in
     let good = good_first c.loop-table.left lent.0 c.next_table.new.self lent.2 inv.good in
-    handed_on _ _ c.in_err-written.field-0.0 c.write_table.result c.from_residual.result (search rules) (search rules) (λ never. never)
-    (c.write_table.ensures.damaged lent.0 lent.1 good.0 (one_readable modelled file c.loop-table.image c.loop-table.left lent.0 c.next_table.new.self lent.2 (inv.readable readable)))
+    let there = one_readable modelled file c.loop-table.image c.loop-table.left lent.0 c.next_table.new.self lent.2 (inv.readable readable) in
+    record {
+      full = told_wider c.in_err-written.field-0.0 c.write_table.result c.from_residual.result (end_of_half c.loop-table.image) (end_of_half begun) (next_of c.loop-table.image + 8192 * pages_of_table (table_in lent.0.1))
+          (next_of begun + 8192 * pages_of_tables (all_shown c.args.tables)) (search rules) (search rules) (ap₂ (λ a b. a + b) from inv.adds.half_bytes) (omega (arith, from, room))
+          (c.write_table.ensures.full lent.0 lent.1 there);
+      damaged = handed_on _ _ c.in_err-written.field-0.0 c.write_table.result c.from_residual.result (search rules) (search rules) (λ never. never)
+          (c.write_table.ensures.damaged lent.0 lent.1 good.0 there);
+    }
 
 pub returns-in_err-push_table-clause-adds : goal.returns-in_err-push_table-clause-adds
 returns-in_err-push_table-clause-adds g c =
@@ -89,7 +85,7 @@ loop-table-preserved g c =
     let adds = c.write_table.ensures.adds in
     let here = same_from w after adds.half adds.half_bytes in
     let there = same_from begun w inv.adds.half inv.adds.half_bytes in
-    let last = c.in_ok-written.ensures.last in
+    let last = c.in_ok-written.ensures.last.pages in
     let count = ap length c.in_ok-push_table.ensures.pages ∙ length-append c.loop-table.laid.pages.items (made.pages ∷ []) in
     let places_are =
     ap (λ (l : List TablePlace). map place_of l) c.in_ok-push_table.ensures.places ∙ map-append place_of c.loop-table.laid.places.items (made.place ∷ []) in
@@ -99,7 +95,7 @@ loop-table-preserved g c =
       inside = (rest_inside (length (life c.args.disk.now).seen) c.loop-table.left e rest lent.2 inv.inside).1;
       good = good.1;
       names = subst (λ (l : List Entry). HaveNames l) (sym places_are)
-          (names_more (map place_of c.loop-table.laid.places.items) (place_of made.place) inv.names (ap is_name (c.in_ok-written.ensures.name ∙ lent.1.name) ∙ first_true (is_name e.0) (is_table (table_in e.1)) good.0));
+          (names_more (map place_of c.loop-table.laid.places.items) (place_of made.place) inv.names (ap is_name (c.in_ok-written.ensures.last.name_is ∙ lent.1.name) ∙ first_true (is_name e.0) (is_table (table_in e.1)) good.0));
       under = λ all. inv.under (subst (λ (l : Tables). AllByRecursion IsUnder l) (sym lent.2) (c.in_ok-written.ensures.under e lent.1, all));
       lie = subst (λ (l : List Places). AllByRecursion (LiesFrom (next_of begun) (next_of after)) l) (sym c.in_ok-push_table.ensures.pages)
           (lie_more (next_of begun) (next_of after) c.loop-table.laid.pages.items made.pages
@@ -112,3 +108,13 @@ loop-table-preserved g c =
           (place_of made.place) made.pages lent.2 there adds.others places_are c.in_ok-push_table.ensures.pages
           (c.in_ok-written.ensures.laid e lent.1 good.0 (one_readable modelled old w c.loop-table.left e rest lent.2 (inv.readable readable))) (inv.laid readable);
     }
+
+pub returns-clause-listed : goal.returns-clause-listed
+returns-clause-listed g c =
+    let inv = c.loop-table.invariant in
+    record { names = inv.names; under = search rules; lie = inv.lie; count = search rules }
+
+pub returns-clause-written : goal.returns-clause-written
+returns-clause-written g c readable =
+    let so = c.loop-table.invariant.laid readable in
+    record { places = search rules; pages = search rules; lists = search rules; written = search rules }

@@ -31,10 +31,10 @@ returns-in-Ok-clause-told g c =
       stays = record { size = told.size; made = refl };
       moments = of (λ (s : Store). LeavesOnly (life (disk_of old)) disk (Moment base s rows es hold)) told.any_moment;
       switched = of (λ (s : Store). IsSwitched modelled disk base s rows es hold journal)
-          (λ rests apart. to_switched modelled disk base (store_of c.args.active.now) rows es hold c.in-Ok.relaid.switched (told.done rests apart));
-      held = told.held;
+          (λ rests apart. to_switched modelled disk base (store_of c.args.active.now) rows es hold c.in-Ok.relaid.switched (told.done rests apart).anew);
+      held = told.laid.held_back;
       layout = refl;
-      inside = told.inside;
+      inside = told.laid.inside;
       faults = told.cause;
       going = c.requires.going;
     }
@@ -46,8 +46,8 @@ returns-in-Ok-clause-pages g c there =
     let s = c.in-Ok.relaid.switched in
     let new : DiskRecorder g.row.D.Denot = record old { pager = c.write_checkpoint.new.disk; journal = s.journal; layout = Two } in
     switched g.D.Disk.is_modelled g.D.Disk.life old new c.args.tables.now.tables c.requires.pages told.size c.requires.going c.args.active.now c.requires.active there
-    c.relaid.new.self.tables s (store_in c.args.tables.now) (entries_of c.args.records.now) c.args.held refl (c.relaid.ensures.inside s.active.region.at told.inside_half) told.front
-    (λ from end away. c.relaid.ensures.apart from end (told.apart from end away)) told.done (λ rests apart. c.relaid.ensures.stand (g.D.Disk.life c.write_checkpoint.new.disk).seen (told.stand rests apart))
+    c.relaid.new.self.tables s (store_in c.args.tables.now) (entries_of c.args.records.now) c.args.held refl (c.relaid.ensures.inside s.active.region.at told.laid.inside_half) told.laid.front
+    (λ from end away. c.relaid.ensures.apart from end (told.laid.apart from end away)) (λ rests apart. (told.done rests apart).anew) (λ rests apart. c.relaid.ensures.stand (g.D.Disk.life c.write_checkpoint.new.disk).seen (told.done rests apart).stand)
 
 pub returns-in-Err-NoMemory-clause-told : goal.returns-in-Err-NoMemory-clause-told
 returns-in-Err-NoMemory-clause-told g c =
@@ -98,8 +98,8 @@ returns-in-Err-Full-clause-told g c =
         going = c.requires.going;
       },
       of (λ (s : Store). LacksRoom modelled life old rows es hold c.in-Err-Full.full.need c.in-Err-Full.full.room new)
-          (λ rests apart. let says = (rw c.in-Err-Full.field-0-is at told.full) apart in
-          record { less = says.0; needed = says.1; has = says.2; unwritten = (rw c.in-Err-Full.field-0-is at told.unwritten) apart }),
+          (λ rests apart. let says = (rw c.in-Err-Full.field-0-is at told.told) apart in
+          record { less = says.full.0; needed = says.full.1; has = says.full.2; unwritten = says.unwritten }),
     )
 
 pub returns-in-Err-Full-clause-pages : goal.returns-in-Err-Full-clause-pages
@@ -147,7 +147,7 @@ returns-in-Err-Damaged-clause-told g c =
       moments = of (λ (s : Store). LeavesOnly (life (disk_of old)) disk (Moment base s (store_in c.args.tables.now) (entries_of c.args.records.now) c.args.held)) told.any_moment;
       journal = refl;
       layout = refl;
-      faults = of (λ (s : Store). disk.faults ≡ (life (disk_of old)).faults + 1) (λ rests apart. absurd ((rw c.in-Err-Damaged.field-0-is at told.damaged) apart));
+      faults = of (λ (s : Store). disk.faults ≡ (life (disk_of old)).faults + 1) (λ rests apart. absurd ((rw c.in-Err-Damaged.field-0-is at told.told) apart).damaged);
       at_most = inr (rw c.in-Err-Damaged.field-0-is at told.cause);
       failed = refl;
     }
