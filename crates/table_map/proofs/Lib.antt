@@ -7,3 +7,4 @@ mod Lent
 mod Opened
 mod Passed
 mod Told
+mod Joined
