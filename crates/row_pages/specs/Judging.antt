@@ -1,7 +1,8 @@
 -- Rows of a schema in the order of their keys, and how they are judged one by one.
-use Rattle.std.specs.Prelude.{◌&&◌, ℕ, Bool, List, [], ◌∷◌, Option, Some, None, map, true}
-use Rattle.std.specs.List.{list_all}
+use Rattle.std.specs.Prelude.{◌≡◌, ◌&&◌, ℕ, Bool, List, [], ◌∷◌, Option, Some, None, map, true}
+use Rattle.std.specs.List.{AllByRecursion, list_all}
 use Rattle.std.specs.Ordering.{is_lt}
+use Rattle.drda_words.specs.Bytes.{AreBytes}
 use Rattle.drda_words.specs.Order.{rises}
 use Rattle.row_values.specs.Key.{key_cmp, row_key}
 use Rattle.row_values.specs.Row.{is_row}
@@ -10,6 +11,11 @@ use Rattle.row_values.specs.Schema.{Schema}
 -- rows of the schema whose keys rise
 abbrev pub do_rise : Schema → List (List ℕ) → Bool
 do_rise schema rows = list_all (is_row schema) rows && rises (key_cmp schema) (map (row_key schema) rows)
+
+-- rows of the schema, as bytes have them, whose keys rise
+pub record AreJudged (schema : Schema) (rows : List (List ℕ)) : Type 0 where
+  pub rise : do_rise schema rows ≡ true
+  pub bytes : AllByRecursion AreBytes rows
 
 -- ---- one row behind another
 

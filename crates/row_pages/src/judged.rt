@@ -1,7 +1,7 @@
 //! A page that is kept, and by which schema it was judged.
 
-ghost use Rattle.std.specs.Prelude.{◌≡◌, IsTrue, true};
-ghost use Rattle.row_pages.specs.Judging.{do_rise as may_rise};
+ghost use Rattle.std.specs.Prelude.{◌≡◌, IsTrue};
+ghost use Rattle.row_pages.specs.Judging.{AreJudged};
 
 use crate::judging::{are_same, do_rise};
 use crate::kept::KeptPage;
@@ -20,16 +20,16 @@ pub struct JudgedPage {
 }
 
 impl Model for JudgedPage {
-    ghost use Rattle.std.specs.Prelude.{◌≡◌, IfSome, true};
+    ghost use Rattle.std.specs.Prelude.{IfSome};
     ghost use Rattle.std.specs.Arc.{arc_value};
     ghost use Rattle.row_pages.specs.Page.{Page};
-    ghost use Rattle.row_pages.specs.Judging.{do_rise};
+    ghost use Rattle.row_pages.specs.Judging.{AreJudged};
 
     ghost Value = { Page };
 
     ghost view = { λ p. p.page };
 
-    ghost invariant = { λ p. IfSome p.mark (λ schema. do_rise (arc_value schema) p.page.rows ≡ true) };
+    ghost invariant = { λ p. IfSome p.mark (λ schema. AreJudged (arc_value schema) p.page.rows) };
 }
 
 impl JudgedPage {
@@ -50,7 +50,7 @@ impl JudgedPage {
     /// Whether it carries the mark of this schema: then its rows are rows of the schema whose keys rise.
     /// No row is looked at.
     pub fn is_marked(&self, schema: &Schema) -> bool
-        ensures { IsTrue result → may_rise schema.now self.now.rows ≡ true }
+        ensures { IsTrue result → AreJudged schema.now self.now.rows }
     {
         match &self.mark {
             Some(mark) => are_same(mark, schema),

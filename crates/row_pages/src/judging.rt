@@ -1,6 +1,8 @@
 //! Whether the rows of a page are those of a schema, judged where they lie: no memory is taken.
 
 ghost use Rattle.std.specs.Prelude.{◌≡◌, IfSome, IsTrue, option_map};
+ghost use Rattle.std.specs.List.{AllByRecursion};
+ghost use Rattle.drda_words.specs.Bytes.{AreBytes};
 ghost use Rattle.row_values.specs.RowView.{row_in, schema_in};
 ghost use Rattle.row_pages.specs.Judging.{comes_before, do_rise as may_rise, is_behind as comes_behind};
 
@@ -10,11 +12,14 @@ use std::cmp::Ordering;
 
 /// Whether the rows of the page are rows of the schema whose keys rise.
 pub(crate) fn do_rise(schema: &Schema, page: &KeptPage) -> bool
-    ensures { result ≡ may_rise schema.now page.now.rows }
+    ensures rise { result ≡ may_rise schema.now page.now.rows }
+    ensures bytes { IsTrue result → AllByRecursion AreBytes page.now.rows }
 {
     let mut last: Option<RowRef<'_>> = None;
     for i in 0..page.len() {
-        let Ok(row) = RowRef::parse(schema, page.row(i)) else {
+        let bytes = page.row(i);
+        are_bytes(bytes);
+        let Ok(row) = RowRef::parse(schema, bytes) else {
             return false;
         };
         if !is_behind(&last, &row) {
@@ -24,6 +29,12 @@ pub(crate) fn do_rise(schema: &Schema, page: &KeptPage) -> bool
     }
     true
 }
+
+// What a slice of bytes is, for clauses.
+#[inline(always)]
+fn are_bytes(bytes: &[u8])
+    ensures { AreBytes bytes.now }
+{}
 
 // Whether a row comes behind the last one, where there is one.
 #[inline(always)]

@@ -7,11 +7,11 @@ use Rattle.std.specs.Ordering.{is_gt}
 use Rattle.std.proofs.lemmas.Cmp.{nat_list_cmp_total}
 use Rattle.std.proofs.lemmas.Map.Keys.{sorted_head, sorted_tail}
 use Rattle.std.proofs.lemmas.Map.Lookups.{exact_bytes}
+use Rattle.drda_words.specs.Bytes.{AreBytes}
 use Rattle.drda_words.specs.Order.{rises}
 use Rattle.key_map.specs.Slots.{by_bytes}
 use Rattle.key_map.specs.Merging.{Above, Changes, InOrder, Rows, merged}
 use Rattle.key_map.specs.Overlay.{change_of}
-use Rattle.row_pages.specs.Judging.{do_rise}
 use Rattle.row_values.specs.Key.{key_cmp, row_key}
 use Rattle.row_values.specs.Row.{is_row}
 use Rattle.row_values.specs.Schema.{Schema}
@@ -35,6 +35,10 @@ less_then a b c lt not = less_step a b c (by_bytes b c) lt refl not
 all_rows : (p : List ℕ → Bool) (a b : List (List ℕ)) → list_all p a ≡ true → list_all p b ≡ true → list_all p (a ++ b) ≡ true
 all_rows p [] b one two = two
 all_rows p (x ∷ a) b one two = both_true (p x) (list_all p (a ++ b)) (first_true (p x) (list_all p a) one) (all_rows p a b (second_true (p x) (list_all p a) one) two)
+
+all_bytes : (a b : List (List ℕ)) → AllByRecursion AreBytes a → AllByRecursion AreBytes b → AllByRecursion AreBytes (a ++ b)
+all_bytes [] b one two = two
+all_bytes (x ∷ a) b one two = (one.0, all_bytes a b one.1 two)
 
 module _ (key_of : List ℕ → List ℕ) where
   -- the keys of all rows come before this one
@@ -118,6 +122,7 @@ module _ (key_of : List ℕ → List ℕ) where
     pub base : List (List ℕ)
     pub order : InOrder (keyed_rows key_of base)
     pub rows : list_all (is_row schema) base ≡ true
+    pub bytes : AllByRecursion AreBytes base
     pub before : AllBefore end base
     pub passes : Passes key_of base from to old new
 
@@ -127,7 +132,7 @@ module _ (key_of : List ℕ → List ℕ) where
 
   pub none_joined : (schema : Schema) (end : Option (List ℕ)) (changes : Rows) (old : List (List ℕ)) → IsJoined schema end changes changes old old
   unfolding IsStrictlySortedBy
-  none_joined schema end changes old = record { base = []; order = tt; rows = refl; before = none_before end; passes = none_passes key_of changes old }
+  none_joined schema end changes old = record { base = []; order = tt; rows = refl; bytes = tt; before = none_before end; passes = none_passes key_of changes old }
 
   pub page_joined : (schema : Schema) → RiseByKeys key_of schema → (low : List ℕ) (end : Option (List ℕ)) (from mid to : Rows) (old between new : List (List ℕ)) → IsJoined schema (Some low) from mid old between → PassesJudged key_of schema low end mid to between new
       → IsJoined schema end from to old new
@@ -136,7 +141,8 @@ module _ (key_of : List ℕ → List ℕ) where
       record {
         base = so.base ++ page.page;
         order = order_both low so.base page.page so.order so.before up page.within.first;
-        rows = all_rows (is_row schema) so.base page.page so.rows (first_true (list_all (is_row schema) page.page) (rises (key_cmp schema) (map (row_key schema) page.page)) page.judged);
+        rows = all_rows (is_row schema) so.base page.page so.rows (first_true (list_all (is_row schema) page.page) (rises (key_cmp schema) (map (row_key schema) page.page)) page.judged.rise);
+        bytes = all_bytes so.base page.page so.bytes page.judged.bytes;
         before = base_before end low so.base page.page page.some page.within.first so.before (page_before end page.page page.some up page.within.last);
         passes = both_pass key_of so.base page.page from mid to old between new so.passes page.passes;
       }
@@ -152,6 +158,8 @@ module _ (key_of : List ℕ → List ℕ) where
         base = so.base;
         order = so.order;
         rows = so.rows;
+        bytes = so.bytes;
+        rising = up;
         same =
             last (so.passes.rising rising)
             ∙ sym passed

@@ -1,10 +1,11 @@
 -- What is known of a scan whose pages were all judged, whatever the device gives back.
 use Rattle.std.specs.Prelude.{◌≡◌, ℕ, ◌-◌, ◌<◌, true, List, ◌++◌, length, Option, Some, None}
-use Rattle.std.specs.List.{list_all, slice_get}
+use Rattle.std.specs.List.{AllByRecursion, list_all, slice_get}
 use Rattle.std.proofs.Common.{Less, Greater}
+use Rattle.drda_words.specs.Bytes.{AreBytes}
 use Rattle.key_map.specs.Slots.{by_bytes}
 use Rattle.key_map.specs.Merging.{Changes, InOrder, Rows, merged}
-use Rattle.row_pages.specs.Judging.{do_rise}
+use Rattle.row_pages.specs.Judging.{AreJudged}
 use Rattle.row_values.specs.Row.{is_row}
 use Rattle.row_values.specs.Schema.{Schema}
 use Rattle.table_map.specs.Keyed.{keyed_rows}
@@ -13,7 +14,7 @@ use Rattle.table_map.specs.Table.{without_keys}
 
 -- rows of the schema whose keys rise are in order by their keys here
 abbrev pub RiseByKeys : (List ℕ → List ℕ) → Schema → Type 0
-RiseByKeys key_of schema = (rows : List (List ℕ)) → do_rise schema rows ≡ true → InOrder (keyed_rows key_of rows)
+RiseByKeys key_of schema = (rows : List (List ℕ)) → AreJudged schema rows → InOrder (keyed_rows key_of rows)
 
 -- a key comes before the end, if there is one
 abbrev pub ComesBefore : List ℕ → Option (List ℕ) → Type 0
@@ -29,7 +30,7 @@ pub record LieWithin (key_of : List ℕ → List ℕ) (low : List ℕ) (end : Op
 pub record PassesJudged (key_of : List ℕ → List ℕ) (schema : Schema) (low : List ℕ) (end : Option (List ℕ)) (old_changes new_changes : Rows) (old new : List (List ℕ)) : Type 0 where
   pub page : List (List ℕ)
   pub some : 0 < length page
-  pub judged : do_rise schema page ≡ true
+  pub judged : AreJudged schema page
   pub within : LieWithin key_of low end page
   pub passes : Passes key_of page old_changes new_changes old new
 
@@ -38,4 +39,6 @@ pub record IsScanned (key_of : List ℕ → List ℕ) (schema : Schema) (changes
   pub base : List (List ℕ)
   pub order : InOrder (keyed_rows key_of base)
   pub rows : list_all (is_row schema) base ≡ true
+  pub bytes : AllByRecursion AreBytes base
+  pub rising : InOrder changes
   pub same : new ≡ old ++ without_keys (merged (keyed_rows key_of base) changes)

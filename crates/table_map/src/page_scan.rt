@@ -9,7 +9,7 @@ ghost use Rattle.row_pages.specs.declared.kept.PageFault.TheVariants.{NoMemory};
 ghost use Rattle.key_map.specs.Merging.{InOrder, merged};
 ghost use Rattle.key_map.specs.Overlay.{change_of};
 ghost use Rattle.table_map.specs.Damage.{DamagedWhere, HasNoRows};
-ghost use Rattle.row_pages.specs.Judging.{do_rise};
+ghost use Rattle.row_pages.specs.Judging.{AreJudged};
 ghost use Rattle.row_values.specs.Schema.{Schema};
 ghost use Rattle.table_map.specs.Judged.{LieWithin, PassesJudged};
 ghost use Rattle.table_map.specs.Keyed.{seen};
@@ -97,7 +97,7 @@ fn is_good<K: RowKeys>(
     bounds: Bounds<'_>,
 ) -> bool
     requires { 0 < length page.now.rows }
-    ensures judged { (schema : Schema) → option_map (λ s. arc_value s.now) by.entry ≡ Some schema → IsTrue result → do_rise schema page.now.rows ≡ true }
+    ensures judged { (schema : Schema) → option_map (λ s. arc_value s.now) by.entry ≡ Some schema → IsTrue result → AreJudged schema page.now.rows }
     ensures within { IsTrue result → LieWithin (K.key_of keys.now) bounds.entry.first.now (seen bounds.entry.end) page.now.rows }
 {
     match by {

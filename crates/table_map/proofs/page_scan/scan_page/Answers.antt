@@ -19,3 +19,14 @@ returns-in-Ok-clause-rows g c page honest is =
     let key_of = g.K.RowKeys.key_of c.args.keys.now in
     let same = c.page-page.ensures ∙ one_page c.in_ok-kept.kept.now (record { kind = kind.Rows; rows = page }) _ (c.in_ok-kept.ensures.page honest) is in
     subst (λ (p : Page). Passes key_of p.rows c.args.changes.now c.push_page.new.changes c.args.rows.now c.push_page.new.rows) same c.in-Ok.ensures
+
+pub returns-in-Ok-clause-judged : goal.returns-in-Ok-clause-judged
+returns-in-Ok-clause-judged g c schema is good =
+    let key_of = g.K.RowKeys.key_of c.args.keys.now in
+    record {
+      page = c.in_ok-kept.kept.now.rows;
+      some = omega (arith, c.if-len-eq0.false, c.len.ensures, ap (λ (p : Page). length p.rows) c.page-page.ensures);
+      judged = c.is_good-good.ensures.judged schema is good;
+      within = c.is_good-good.ensures.within good;
+      passes = subst (λ (p : Page). Passes key_of p.rows c.args.changes.now c.push_page.new.changes c.args.rows.now c.push_page.new.rows) c.page-page.ensures c.in-Ok.ensures;
+    }
