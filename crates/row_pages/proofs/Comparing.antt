@@ -31,14 +31,14 @@ Fits schema row = all_fit schema.columns (values_in schema row) ≡ true
 -- ---- values from a place on
 
 -- the order of the values at a place and of those behind it is that of all
-order_at : (xs ys : List Value) (i : ℕ) (x y : Value) (o : Ordering) → slice_get xs i ≡ Some x → drop i ys ≡ y ∷ drop (i + 1) ys → value_cmp x y ≡ o → OrderedFrom xs ys i
+pub order_at : (xs ys : List Value) (i : ℕ) (x y : Value) (o : Ordering) → slice_get xs i ≡ Some x → drop i ys ≡ y ∷ drop (i + 1) ys → value_cmp x y ≡ o → OrderedFrom xs ys i
     → ordering_then o (slice_cmp value_cmp (drop (i + 1) xs) (drop (i + 1) ys)) ≡ slice_cmp value_cmp xs ys
 order_at xs ys i x y o at_x at_y is so =
     ap (λ (r : Ordering). ordering_then r (slice_cmp value_cmp (drop (i + 1) xs) (drop (i + 1) ys))) (sym is)
     ∙ sym (ap (λ (l : List Value). slice_cmp value_cmp l (drop i ys)) (drop_at xs i x at_x) ∙ ap (slice_cmp value_cmp (x ∷ drop (i + 1) xs)) at_y) ∙ so
 
 -- behind the last place nothing decides
-tie_at_end : (xs ys : List Value) (i : ℕ) → length xs ≤ i → length ys ≤ i → OrderedFrom xs ys i → Equal ≡ slice_cmp value_cmp xs ys
+pub tie_at_end : (xs ys : List Value) (i : ℕ) → length xs ≤ i → length ys ≤ i → OrderedFrom xs ys i → Equal ≡ slice_cmp value_cmp xs ys
 tie_at_end xs ys i past_xs past_ys so =
     sym (ap (λ (l : List Value). slice_cmp value_cmp l (drop i ys)) (drop_all i xs past_xs) ∙ ap (slice_cmp value_cmp []) (drop_all i ys past_ys)) ∙ so
 
@@ -72,13 +72,13 @@ is_column_as schema s place schemas lt = subst (λ (t : Schema). place < length 
 
 module _ (schema : Schema) (row : List ℕ) (good : is_schema schema ≡ true) (fit : Fits schema row) where
   -- it has a value for each place
-  keyed_count : length (keyed schema row) ≡ length schema.key
+  pub keyed_count : length (keyed schema row) ≡ length schema.key
   keyed_count = length-picked (values_in schema row) schema.key (key_places_values schema (values_in schema row) good fit)
 
-  keyed_at : (i place : ℕ) (x : Value) → slice_get schema.key i ≡ Some place → slice_get (values_in schema row) place ≡ Some x → slice_get (keyed schema row) i ≡ Some x
+  pub keyed_at : (i place : ℕ) (x : Value) → slice_get schema.key i ≡ Some place → slice_get (values_in schema row) place ≡ Some x → slice_get (keyed schema row) i ≡ Some x
   keyed_at i place x at is = key_value_at schema (values_in schema row) i place x good fit at is
 
-  keyed_is : key_values schema (row_key schema row) ≡ keyed schema row
+  pub keyed_is : key_values schema (row_key schema row) ≡ keyed schema row
   keyed_is = ap (λ o. unwrap_or o []) (key_good schema (keyed schema row) good (key_fits schema (values_in schema row) good fit))
 
 decided : (o p : Ordering) → (o ≡ Equal → p ≡ Equal) → ordering_then o p ≡ o

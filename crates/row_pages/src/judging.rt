@@ -36,9 +36,9 @@ fn are_bytes(bytes: &[u8])
     ensures { AreBytes bytes.now }
 {}
 
-// Whether a row comes behind the last one, where there is one.
+/// Whether a row comes behind the last one, where there is one.
 #[inline(always)]
-fn is_behind(last: &Option<RowRef<'_>>, row: &RowRef<'_>) -> bool
+pub fn is_behind(last: &Option<RowRef<'_>>, row: &RowRef<'_>) -> bool
     requires { IfSome last.now (λ last. schema_in last ≡ schema_in row.now) }
     ensures { result ≡ comes_behind (schema_in row.now) (option_map row_in last.now) (row_in row.now) }
 {
@@ -48,9 +48,9 @@ fn is_behind(last: &Option<RowRef<'_>>, row: &RowRef<'_>) -> bool
     }
 }
 
-/// Whether the first of two rows of one schema has the key that comes first.
+// Whether the first of two rows of one schema has the key that comes first.
 #[inline(always)]
-pub fn comes_before(first: &RowRef<'_>, second: &RowRef<'_>) -> bool
+fn comes_before(first: &RowRef<'_>, second: &RowRef<'_>) -> bool
     requires { schema_in first.now ≡ schema_in second.now }
     ensures { result ≡ comes_before (schema_in second.now) (row_in first.now) (row_in second.now) }
 {

@@ -15,7 +15,7 @@ mod rows;
 pub use builder::{PageBuilder, Pushed};
 pub use cache::PageCache;
 pub use judged::JudgedPage;
-pub use judging::comes_before;
+pub use judging::is_behind;
 pub use kept::{KeptPage, PageFault, read_page};
 pub use laws::{one_laying, one_page};
 pub use laying::PageCount;
