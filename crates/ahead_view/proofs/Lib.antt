@@ -1,5 +1,4 @@
 mod Comparing
-mod Rising
 mod MayBe
 mod Replacing
 mod Standing

@@ -13,7 +13,9 @@ use Rattle.tables.specs.View.{is_entry, is_table}
 use Rattle.tables.proofs.Finding.{same_bytes}
 use Rattle.tables.proofs.Keeping.{parts}
 use Rattle.tables.proofs.Showing.{GoodTable}
-use Rattle.ahead_view.specs.Judging.{do_rise, may_be_row, may_be_rows}
+use Rattle.row_pages.specs.Judging.{do_rise}
+use Rattle.paged_tables.specs.Judged.{may_be_rows}
+use Rattle.ahead_view.specs.Judging.{may_be_row}
 
 rows_are : (schema : Schema) (es : List (List ℕ × List ℕ)) → list_all (is_entry schema) es ≡ true → list_all (is_row schema) (values_of es) ≡ true
 rows_are schema [] all = refl

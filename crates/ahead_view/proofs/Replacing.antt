@@ -17,7 +17,8 @@ use Rattle.tables.proofs.Finding.{indeed, itself}
 use Rattle.tables.proofs.Keeping.{named_table, parts, same_keys}
 use Rattle.tables.proofs.Showing.{GoodTable, good_table}
 use Rattle.ahead_view.specs.Given.{with_rows}
-use Rattle.ahead_view.specs.Judging.{do_rise, may_be_rows}
+use Rattle.row_pages.specs.Judging.{do_rise}
+use Rattle.paged_tables.specs.Judged.{may_be_rows}
 use Rattle.ahead_view.proofs.MayBe.{at_keys}
 
 -- ---- the table

@@ -1,26 +1,35 @@
 //! Whether rows that were read may be those of a table, judged where they lie: for no row is memory taken.
 
-ghost use Rattle.std.specs.Prelude.{◌≡◌, IfOk, IfSome, bytes_eq, option_map};
+ghost use Rattle.std.specs.Prelude.{◌≡◌, IfOk, IsTrue, bytes_eq, option_map, true};
 ghost use Rattle.row_values.specs.Key.{row_key};
 ghost use Rattle.row_values.specs.RowView.{row_in, schema_in};
 ghost use Rattle.tables.specs.Tables.{is_row_at};
 ghost use Rattle.paged_tables.specs.PagedTables.{store_in};
 ghost use Rattle.ahead_view.specs.Ahead.{may_be_read};
-ghost use Rattle.ahead_view.specs.Judging.{comes_before, do_rise as may_rise, is_behind as comes_behind, may_be_rows};
+ghost use Rattle.row_pages.specs.Judging.{do_rise as may_rise};
+ghost use Rattle.paged_tables.specs.Judged.{may_be_rows};
 
 use crate::reading::ReadAhead;
 use paged_tables::PagedTables;
+use row_pages::is_behind;
 use row_values::{KeyValues, RowRef, Schema, is_key};
 use std::alloc::AllocError;
-use std::cmp::Ordering;
 use tables::Rows;
 
 /// Whether what was read may be rows of these tables: of the schema of their table, each at its key, in
-/// the order of keys. No page is read. The schema is shared where there is a row, and nowhere else is
-/// memory asked for.
-pub(crate) fn is_possible(tables: &PagedTables, read: &ReadAhead<'_>) -> Result<bool, AllocError>
+/// the order of keys. Where that is known already nothing is judged. No page is read. The schema is shared
+/// where there is a row to judge, and nowhere else is memory asked for.
+pub(crate) fn is_possible(
+    tables: &PagedTables,
+    read: &ReadAhead<'_>,
+    is_known: bool,
+) -> Result<bool, AllocError>
+    requires { IsTrue is_known → may_be_read (store_in tables.now) read.now ≡ true }
     ensures { IfOk result (λ may. may ≡ may_be_read (store_in tables.now) read.now) }
 {
+    if is_known {
+        return Ok(true);
+    }
     match read {
         ReadAhead::Nothing => Ok(true),
         ReadAhead::Row { table, key, row } => {
@@ -99,33 +108,4 @@ fn do_rise(schema: &Schema, rows: &Rows) -> bool
         last = Some(row);
     }
     true
-}
-
-// Whether a row comes behind the last one, where there is one.
-#[inline(always)]
-fn is_behind(last: &Option<RowRef<'_>>, row: &RowRef<'_>) -> bool
-    requires { IfSome last.now (λ last. schema_in last ≡ schema_in row.now) }
-    ensures { result ≡ comes_behind (schema_in row.now) (option_map row_in last.now) (row_in row.now) }
-{
-    match last {
-        Some(last) => comes_before(last, row),
-        None => true,
-    }
-}
-
-// Whether the first of two rows of one schema has the key that comes first.
-#[inline(always)]
-fn comes_before(first: &RowRef<'_>, second: &RowRef<'_>) -> bool
-    requires { schema_in first.now ≡ schema_in second.now }
-    ensures { result ≡ comes_before (schema_in second.now) (row_in first.now) (row_in second.now) }
-{
-    for place in second.schema().key() {
-        let place = usize::from(*place);
-        match first.column(place).order(&second.column(place)) {
-            Ordering::Less => return true,
-            Ordering::Greater => return false,
-            Ordering::Equal => {}
-        }
-    }
-    false
 }

@@ -10,7 +10,7 @@ ghost use Rattle.paged_tables.specs.PagedTables.{store_in};
 
 use crate::judging::is_possible;
 use crate::source::{ReadError, Source};
-use paged_tables::PagedTables;
+use paged_tables::{JudgedRows, PagedTables};
 use std::alloc::{AllocError, Global};
 use std::mem;
 use tables::Rows;
@@ -60,12 +60,19 @@ pub fn read_ahead<'a, S: Source>(
 {
     // The tables are a store.
     let _count = tables.count();
-    let read = read_unjudged(source, alloc, tables, wanted)?;
-    if !is_possible(tables, &read)? {
+    let Reading { read, is_judged } = read_unjudged(source, alloc, tables, wanted)?;
+    if !is_possible(tables, &read, is_judged)? {
         source.fail();
         return Err(ReadError::DeviceFailed);
     }
     Ok(read)
+}
+
+// What was read, and whether it is known that it may be rows of the tables.
+#[derive(Drop)]
+struct Reading<'a> {
+    read: ReadAhead<'a>,
+    is_judged: bool,
 }
 
 // What a statement is going to ask for, as it is read.
@@ -74,21 +81,31 @@ fn read_unjudged<'a, S: Source>(
     alloc: Global,
     tables: &PagedTables,
     wanted: Wanted<'a>,
-) -> Result<ReadAhead<'a>, ReadError>
+) -> Result<Reading<'a>, ReadError>
     requires { S.holds source.old tables.now.tables }
-    ensures told { IsTrue S.is_told → IfOk result (λ read. WasRead (store_in tables.now) read) }
-    ensures read { IfOk result (λ read. IsReadBy S.reads read source.old source.new) }
+    ensures told { IsTrue S.is_told → IfOk result (λ r. WasRead (store_in tables.now) r.read) }
+    ensures judged { IfOk result (λ r. IsTrue r.is_judged → may_be_read (store_in tables.now) r.read ≡ true) }
+    ensures read { IfOk result (λ r. IsReadBy S.reads r.read source.old source.new) }
     ensures source { LeavesReader (MayRead S.reads) S.fails_to_read source.old result source.new }
 {
     match wanted {
-        Wanted::Nothing => Ok(ReadAhead::Nothing),
+        Wanted::Nothing => Ok(Reading {
+            read: ReadAhead::Nothing,
+            is_judged: true,
+        }),
         Wanted::Row { table, key } => {
             let row = source.row(alloc, tables, table, key)?;
-            Ok(ReadAhead::Row { table, key, row })
+            Ok(Reading {
+                read: ReadAhead::Row { table, key, row },
+                is_judged: false,
+            })
         }
         Wanted::Rows { table } => {
-            let rows = source.rows(alloc, tables, table)?;
-            Ok(ReadAhead::Rows { table, rows })
+            let JudgedRows { rows, are_judged } = source.rows(alloc, tables, table)?;
+            Ok(Reading {
+                read: ReadAhead::Rows { table, rows },
+                is_judged: are_judged,
+            })
         }
     }
 }

@@ -1,15 +1,15 @@
 //! Who reads rows of tables over pages.
 
-ghost use Rattle.std.specs.Prelude.{◌≡◌, Bool, IfOk, IsTrue, false};
+ghost use Rattle.std.specs.Prelude.{◌≡◌, Bool, IfOk, IsTrue, false, true};
 ghost use Rattle.table_map.specs.Keyed.{copied};
-ghost use Rattle.tables.specs.Tables.{row_of, rows_of};
+ghost use Rattle.tables.specs.Tables.{row_of, rows_of, schema_of};
 ghost use Rattle.ahead_view.specs.Source.{LeavesReader};
+ghost use Rattle.paged_tables.specs.Judged.{may_be_rows};
 ghost use Rattle.paged_tables.specs.PagedTables.{store_in};
 ghost use Rattle.paged_tables.specs.TablesByName.{Tables};
 
-use paged_tables::PagedTables;
+use paged_tables::{JudgedRows, PagedTables};
 use std::alloc::{AllocError, Global};
-use tables::Rows;
 use thiserror::Error;
 
 /// Why no rows were read.
@@ -61,11 +61,17 @@ pub trait Source {
         ensures found { IsTrue is_told → IfOk result (λ row. copied row ≡ row_of (store_in tables.now) table.now key.now) }
         ensures read { LeavesReader reads fails_to_read self.old result self.new };
 
-    /// All rows of the table of a name, in the order of their keys, in new memory. Without a table there
-    /// are none.
-    fn rows(&mut self, alloc: Global, tables: &PagedTables, table: &str) -> Result<Rows, ReadError>
+    /// All rows of the table of a name, in the order of their keys, in new memory, and whether it is known
+    /// that they may be those of the table. Without a table there are none.
+    fn rows(
+        &mut self,
+        alloc: Global,
+        tables: &PagedTables,
+        table: &str,
+    ) -> Result<JudgedRows, ReadError>
         requires { holds self.old tables.now.tables }
-        ensures rows { IsTrue is_told → IfOk result (λ rows. rows ≡ rows_of (store_in tables.now) table.now) }
+        ensures rows { IsTrue is_told → IfOk result (λ judged. judged.rows ≡ rows_of (store_in tables.now) table.now) }
+        ensures judged { IfOk result (λ judged. IsTrue judged.are_judged → may_be_rows (schema_of (store_in tables.now) table.now) judged.rows ≡ true) }
         ensures read { LeavesReader reads fails_to_read self.old result self.new };
 
     /// What the last read gave is no row of the table: the device counts as failed in that read.

@@ -5,10 +5,9 @@ ghost use Rattle.std.specs.Prelude.{◌≡◌};
 use crate::recorder::DiskRecorder;
 use ahead_view::{ReadError, Source};
 use drda_disk::Disk;
-use paged_tables::PagedTables;
+use paged_tables::{JudgedRows, PagedTables};
 use row_pages::PageFault;
 use std::alloc::Global;
-use tables::Rows;
 
 /// How many pages a recorder keeps at most.
 pub const CACHED_PAGES: usize = 64;
@@ -50,11 +49,11 @@ impl<D: Disk> Source for DiskRecorder<D> {
         alloc: Global,
         tables: &PagedTables,
         table: &str,
-    ) -> Result<Rows, ReadError> {
+    ) -> Result<JudgedRows, ReadError> {
         if self.is_failed {
             return Err(ReadError::DeviceFailed);
         }
-        match tables.rows(alloc, &mut self.pager, table) {
+        match tables.judged_rows(alloc, &mut self.pager, table) {
             Ok(rows) => Ok(rows),
             Err(fault) => Err(self.not_read(fault)),
         }

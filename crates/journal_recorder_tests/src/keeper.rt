@@ -9,7 +9,7 @@ use crate::records::released_by;
 use ahead_view::{ReadError, Source};
 use drda_disk::Disk;
 use journal_recorder::{CheckpointError, DiskRecorder, pages_are_kept};
-use paged_tables::PagedTables;
+use paged_tables::{JudgedRows, PagedTables};
 use std::alloc::{AllocError, Global};
 use std::marker::Model;
 use tables::{Change, Rows};
@@ -131,7 +131,10 @@ impl<D: Disk> Keeper<D> {
     /// All rows of a table.
     pub fn rows(&mut self, table: &str) -> Result<Rows, ReadError> {
         match self.recorder.rows(self.alloc, &self.tables, table) {
-            Ok(rows) => Ok(rows),
+            Ok(JudgedRows {
+                rows,
+                are_judged: _,
+            }) => Ok(rows),
             Err(ReadError::NoMemory) => Err(ReadError::NoMemory),
             Err(ReadError::DeviceFailed) => Err(ReadError::DeviceFailed),
         }

@@ -8,3 +8,4 @@ pub mod TreeSteps
 pub mod Reserving
 pub mod Opened
 pub mod KeyBytes
+mod Scanned

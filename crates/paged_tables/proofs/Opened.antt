@@ -85,7 +85,7 @@ before_good schema e (d ∷ ds) one all up =
     both_true (is_lt (key_cmp schema (row_key schema e.1) (row_key schema d.1))) (list_all (λ later. is_lt (key_cmp schema (row_key schema e.1) later)) (keys_of (at_keys schema ds)))
     (ap is_lt (sym (agree schema (row_key schema e.1) (row_key schema d.1) e.0 d.0 one.key all.0.key) ∙ up.0)) (before_good schema e ds one all.1 up.1)
 
-rises_good : (schema : Schema) (rows : Rows) → HaveForms schema rows → InOrder rows → rises (key_cmp schema) (keys_of (at_keys schema rows)) ≡ true
+pub rises_good : (schema : Schema) (rows : Rows) → HaveForms schema rows → InOrder rows → rises (key_cmp schema) (keys_of (at_keys schema rows)) ≡ true
 rises_good schema [] all up = refl
 rises_good schema (e ∷ es) all up =
     both_true (list_all (λ later. is_lt (key_cmp schema (row_key schema e.1) later)) (keys_of (at_keys schema es))) (rises (key_cmp schema) (keys_of (at_keys schema es)))

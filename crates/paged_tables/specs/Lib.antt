@@ -4,3 +4,4 @@ pub mod Steps
 pub mod PagedTables
 pub mod Lending
 pub mod Laws
+pub mod Judged

@@ -14,3 +14,4 @@ mod tree;
 pub use laws::rows_stand_at_their_forms;
 pub use lending::{TableRef, TablesLeft};
 pub use store::PagedTables;
+pub use stored_table::JudgedRows;

@@ -10,11 +10,13 @@ ghost use Rattle.table_map.specs.Damage.{DamagedWhere};
 ghost use Rattle.table_map.specs.Keyed.{copied};
 ghost use Rattle.tables.specs.Tables.{row_of, rows_of, schema_of};
 ghost use Rattle.tables.specs.View.{is_store};
+ghost use Rattle.paged_tables.specs.Judged.{may_be_rows};
 ghost use Rattle.paged_tables.specs.Stored.{AreRowsOf, IsOnPages, LiesInside, LiesOutside, opened, table_in};
 ghost use Rattle.tables.specs.Applied.{apply_all};
 ghost use Rattle.tables.specs.ChangeView.{change_of};
 
 use crate::lending::TablesLeft;
+use crate::stored_table::JudgedRows;
 use crate::steps::{Step, apply_all, release_all, reserve_all};
 use crate::tables_by_name::TablesByName;
 use drda_disk::Disk;
@@ -104,9 +106,37 @@ impl PagedTables {
         ensures stays { Stays (D.life pager.old) (D.life pager.new) }
         ensures cause { CountsPageFault result (D.life pager.old).faults (D.life pager.new).faults }
     {
+        match self.judged_rows(alloc, pager, table) {
+            Ok(JudgedRows {
+                rows,
+                are_judged: _,
+            }) => Ok(rows),
+            Err(fault) => Err(fault),
+        }
+    }
+
+    /// The same rows, and whether it is known, whatever the device, that they may be those of the table: rows
+    /// of its schema whose keys rise, and none without a table. It is known once each page of the table was
+    /// judged and lies where the key of its first row says; a page that is kept is judged once.
+    pub fn judged_rows<D: Disk>(
+        &self,
+        alloc: Global,
+        pager: &mut Pager<D>,
+        table: &str,
+    ) -> Result<JudgedRows, PageFault>
+        requires { LieInside (length (D.life pager.old).seen) self.now.tables }
+        ensures rows { IsTrue D.is_modelled → AreOnPages (D.life pager.old).seen self.now.tables → IfOk result (λ judged. judged.rows ≡ rows_of (store_in self.now) table.now) }
+        ensures judged { IfOk result (λ judged. IsTrue judged.are_judged → may_be_rows (schema_of (store_in self.now) table.now) judged.rows ≡ true) }
+        ensures whole { IsTrue D.is_modelled → AreOnPages (D.life pager.old).seen self.now.tables → DamagedWhere ⊥ result }
+        ensures stays { Stays (D.life pager.old) (D.life pager.new) }
+        ensures cause { CountsPageFault result (D.life pager.old).faults (D.life pager.new).faults }
+    {
         match self.tables.created(table) {
             Some(table) => table.scan(alloc, pager),
-            None => Ok(Rows::new(alloc)),
+            None => Ok(JudgedRows {
+                rows: Rows::new(alloc),
+                are_judged: true,
+            }),
         }
     }
 

@@ -7,6 +7,7 @@ ghost use Rattle.drda_disk.specs.Disk.{Stays};
 ghost use Rattle.key_map.specs.Merging.{row_at};
 ghost use Rattle.key_map.specs.RowForm.{row_form};
 ghost use Rattle.key_map.specs.Slots.{HasRoom};
+ghost use Rattle.row_pages.specs.Judging.{do_rise};
 ghost use Rattle.row_pages.specs.Keeping.{CountsPageFault};
 ghost use Rattle.row_values.specs.Key.{is_key};
 ghost use Rattle.row_values.specs.Row.{is_row};
@@ -17,6 +18,7 @@ ghost use Rattle.table_map.specs.Table.{without_keys};
 ghost use Rattle.tables.specs.Tables.{put_row, remove_row};
 ghost use Rattle.paged_tables.specs.Stored.{AreRowsOf, FormsKey, FormsRow, HasRoomFor, IsFormOf, IsOnPages, IsRowAt, IsStored, KeepsPages, LiesInside, created_table, form_in, laid_anew, opened, rows_in, shown, table_in};
 
+use crate::laws::rows_stand_at_their_forms;
 use drda_disk::Disk;
 use key_map::laws::rows_have_their_forms;
 use key_map::{row_form, sort_form};
@@ -28,6 +30,14 @@ use std::marker::Model;
 use std::sync::Arc;
 use table_map::{NotedPages, NotedRows, SchemaKeys, TableMap, TablePages, stored_tables_are_whole};
 use tables::Rows;
+
+/// Rows of a table, in the order of their keys.
+#[derive(Drop)]
+pub struct JudgedRows {
+    pub rows: Rows,
+    /// Whether it is known, whatever the device, that they are rows of the table's schema in that order.
+    pub are_judged: bool,
+}
 
 /// A table: its schema, and its rows by the sort forms of their keys, those of its pages with the
 /// changes since. A table may be held ready before it is created; then it has no rows, and it is not
@@ -156,21 +166,31 @@ impl StoredTable {
         self.rows.get(alloc, &keys, pager, form)
     }
 
-    /// All rows, in the order of their keys. Each page is looked at once.
-    pub fn scan<D: Disk>(&self, alloc: Global, pager: &mut Pager<D>) -> Result<Rows, PageFault>
+    /// All rows, in the order of their keys, and whether it is known, whatever the device, that they are
+    /// rows of the schema in that order. Each page is looked at once, and judged where it was not before.
+    pub fn scan<D: Disk>(
+        &self,
+        alloc: Global,
+        pager: &mut Pager<D>,
+    ) -> Result<JudgedRows, PageFault>
         requires { LiesInside (length (D.life pager.old).seen) self.now }
-        ensures rows { IsTrue D.is_modelled → IsOnPages (D.life pager.old).seen self.now → IfOk result (λ rows. rows ≡ values_of (table_in self.now).rows) }
+        ensures rows { IsTrue D.is_modelled → IsOnPages (D.life pager.old).seen self.now → IfOk result (λ judged. judged.rows ≡ values_of (table_in self.now).rows) }
+        ensures judged { IfOk result (λ judged. IsTrue judged.are_judged → do_rise self.now.schema judged.rows ≡ true) }
         ensures whole { IsTrue D.is_modelled → IsOnPages (D.life pager.old).seen self.now → DamagedWhere ⊥ result }
         ensures stays { Stays (D.life pager.old) (D.life pager.new) }
         ensures cause { CountsPageFault result (D.life pager.old).faults (D.life pager.new).faults }
     {
         stored_tables_are_whole();
-        let keys = SchemaKeys {
-            schema: &self.schema,
-        };
+        rows_stand_at_their_forms();
+        let schema: &Schema = &self.schema;
+        let _columns = schema.columns();
+        let keys = SchemaKeys { schema };
         let mut rows = Rows::new(alloc);
-        match self.rows.scan_into(alloc, &keys, pager, &mut rows) {
-            Ok(()) => Ok(rows),
+        match self
+            .rows
+            .scan_judged(alloc, &keys, pager, Some(&self.schema), &mut rows)
+        {
+            Ok(are_judged) => Ok(JudgedRows { rows, are_judged }),
             Err(fault) => Err(fault),
         }
     }

@@ -3,7 +3,7 @@
 ghost use Rattle.std.specs.Prelude.{◌≡◌, false, true};
 
 use ahead_view::{ReadError, Source};
-use paged_tables::PagedTables;
+use paged_tables::{JudgedRows, PagedTables};
 use std::alloc::Global;
 use std::mem;
 use tables::Rows;
@@ -59,8 +59,11 @@ impl Source for Given {
         alloc: Global,
         tables: &PagedTables,
         table: &str,
-    ) -> Result<Rows, ReadError> {
-        Ok(mem::replace(&mut self.rows, Rows::new(alloc)))
+    ) -> Result<JudgedRows, ReadError> {
+        Ok(JudgedRows {
+            rows: mem::replace(&mut self.rows, Rows::new(alloc)),
+            are_judged: false,
+        })
     }
 
     fn fail(&mut self) {

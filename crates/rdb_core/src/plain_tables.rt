@@ -9,7 +9,7 @@ ghost use Rattle.paged_tables.specs.PagedTables.{store_in};
 ghost use Rattle.rdb_core.specs.Copied.{FailsOn, ReadsOn, with_rows, with_table_of};
 
 use ahead_view::{ReadError, Source};
-use paged_tables::PagedTables;
+use paged_tables::{JudgedRows, PagedTables};
 use row_values::{MAX_ROW_BYTES, Schema};
 use std::alloc::{AllocError, Global};
 use tables::{Change, PlainView, Rows};
@@ -28,7 +28,10 @@ pub(crate) fn copied_tables<S: Source>(
     let mut view = PlainView::new(alloc);
     let mut left = tables.lend();
     while let Some(table) = left.next_table() {
-        let rows = source.rows(alloc, tables, table.name)?;
+        let JudgedRows {
+            rows,
+            are_judged: _,
+        } = source.rows(alloc, tables, table.name)?;
         add_table(&mut view, alloc, table.name, table.schema, &rows)?;
     }
     Ok(view)

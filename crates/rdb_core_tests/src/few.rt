@@ -3,7 +3,7 @@
 ghost use Rattle.std.specs.Prelude.{◌≡◌};
 
 use ahead_view::{ReadError, Source};
-use paged_tables::PagedTables;
+use paged_tables::{JudgedRows, PagedTables};
 use std::alloc::{AllocError, Global};
 use tables::Rows;
 use test_core::{read_row, read_rows};
@@ -113,10 +113,16 @@ impl Source for Few {
         alloc: Global,
         tables: &PagedTables,
         table: &str,
-    ) -> Result<Rows, ReadError> {
+    ) -> Result<JudgedRows, ReadError> {
         self.count_read()?;
-        let rows = read_rows(alloc, tables, table)?;
-        Ok(self.give_all(alloc, &rows)?)
+        let JudgedRows {
+            rows,
+            are_judged: _,
+        } = read_rows(alloc, tables, table)?;
+        Ok(JudgedRows {
+            rows: self.give_all(alloc, &rows)?,
+            are_judged: false,
+        })
     }
 
     fn fail(&mut self) {

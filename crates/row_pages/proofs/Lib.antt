@@ -5,3 +5,5 @@ mod Growing
 mod LaidPages
 mod KeptPages
 mod Placed
+pub mod Comparing
+pub mod Rising

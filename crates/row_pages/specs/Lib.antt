@@ -5,3 +5,4 @@ pub mod Walk
 pub mod Filling
 pub mod Keeping
 pub mod Laying
+pub mod Judging

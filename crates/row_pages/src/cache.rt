@@ -8,13 +8,16 @@ ghost use Rattle.row_pages.specs.Page.{IsPage};
 ghost use Rattle.row_pages.specs.Keeping.{AreRead, CountsPageFault, TellsDamage};
 ghost use Rattle.row_pages.specs.declared.kept.PageFault.TheVariants.{NoMemory};
 
+use crate::judged::JudgedPage;
 use crate::kept::{KeptPage, PageFault, read_page};
 use crate::page::PAGE_BYTES;
 use drda_disk::Disk;
 use lru::LruCache;
+use row_values::Schema;
 use std::alloc::{AllocError, Global};
 use std::marker::Model;
 use std::num::NonZeroUsize;
+use std::sync::Arc;
 
 /// Pages by the offsets at which they were read, so many at most; the one that was asked for
 /// longest ago goes first. Contracts see it as the list of them.
@@ -23,7 +26,7 @@ use std::num::NonZeroUsize;
 /// that disk reads (`AreRead`).
 #[derive(Drop)]
 pub struct PageCache {
-    pages: LruCache<usize, KeptPage>,
+    pages: LruCache<usize, JudgedPage>,
     /// No page that is kept begins in front of this offset,
     first: usize,
     /// and none behind this one.
@@ -115,14 +118,24 @@ impl PageCache {
     {
         self.first = earlier_of(self.first, at);
         self.last = later_of(self.last, at);
-        match self.pages.put(at, page) {
+        match self.pages.put(at, JudgedPage::new(page)) {
             Ok(_) => Ok(()),
             Err(_) => Err(PageFault::NoMemory),
         }
     }
 
+    /// The page that is kept at an offset is judged by a schema, where there is one: it carries its mark
+    /// then, where its rows are rows of the schema whose keys rise. Takes no memory.
+    pub(crate) fn judge(&mut self, at: usize, by: Option<&Arc<Schema, Global>>)
+        ensures { self.new ≡ self.old }
+    {
+        if let Some(schema) = by {
+            judge_at(&mut self.pages, at, schema);
+        }
+    }
+
     /// The page that is kept at an offset.
-    pub(crate) fn kept(&self, at: usize) -> &KeptPage
+    pub(crate) fn kept(&self, at: usize) -> &JudgedPage
         requires { IsSome (lookup (nat_eq at) self.now) }
         ensures { (file : List ℕ) → AreRead self.now file → IsPage result.now (part file at 8192) }
     {
@@ -130,6 +143,20 @@ impl PageCache {
             Some(page) => page,
             None => unreachable!(),
         }
+    }
+}
+
+// The page at an offset is judged by a schema.
+fn judge_at(
+    pages: &mut LruCache<usize, JudgedPage>,
+    at: usize,
+    schema: &Arc<Schema, Global>,
+)
+    ensures { pages.new ≡ pages.old }
+{
+    match pages.peek_mut(&at) {
+        Some(page) => page.judge(schema),
+        None => {}
     }
 }
 

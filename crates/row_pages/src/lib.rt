@@ -3,6 +3,8 @@
 
 mod builder;
 mod cache;
+mod judged;
+mod judging;
 mod kept;
 mod laws;
 mod laying;
@@ -12,6 +14,8 @@ mod rows;
 
 pub use builder::{PageBuilder, Pushed};
 pub use cache::PageCache;
+pub use judged::JudgedPage;
+pub use judging::is_behind;
 pub use kept::{KeptPage, PageFault, read_page};
 pub use laws::{one_laying, one_page};
 pub use laying::PageCount;

@@ -9,10 +9,13 @@ ghost use Rattle.row_pages.specs.Page.{IsPage};
 ghost use Rattle.row_pages.specs.Keeping.{CountsPageFault, TellsDamage};
 
 use crate::cache::PageCache;
+use crate::judged::JudgedPage;
 use crate::kept::{KeptPage, PageFault};
 use drda_disk::{Disk, DiskFault};
+use row_values::Schema;
 use std::alloc::Global;
 use std::marker::Model;
+use std::sync::Arc;
 
 /// A disk that is lent as one with the pages of it that are kept in memory: each of these is what the disk
 /// reads. It is a disk itself, and a write through it lets go of what is kept where it writes. Contracts see
@@ -69,7 +72,29 @@ impl<D: Disk> Pager<D> {
         ensures damaged { IsTrue D.is_modelled → TellsDamage (part (D.life self.old).seen at 8192) result }
     {
         match self.cache.fetch(alloc, &mut self.disk, at) {
-            Ok(()) => Ok(self.cache.kept(at)),
+            Ok(()) => Ok(self.cache.kept(at).page()),
+            Err(fault) => Err(fault),
+        }
+    }
+
+    /// The same page, judged by a schema where there is one. A page that carries the schema's mark already
+    /// is not judged again.
+    pub fn judged_page<'s>(
+        &'s mut self,
+        alloc: Global,
+        at: usize,
+        by: Option<&Arc<Schema, Global>>,
+    ) -> Result<&'s JudgedPage, PageFault>
+        requires { at + 8192 ≤ length (D.life self.old).seen }
+        ensures* after { sem 𝓛 (Rests (the_row D.row D.Disk) self.entry (λ now. Stays (D.life self.old) (D.life now) × CountsPageFault result (D.life self.old).faults (D.life now).faults)) }
+        ensures page { IsTrue D.is_modelled → IfOk result (λ page. IsPage page.now (part (D.life self.old).seen at 8192)) }
+        ensures damaged { IsTrue D.is_modelled → TellsDamage (part (D.life self.old).seen at 8192) result }
+    {
+        match self.cache.fetch(alloc, &mut self.disk, at) {
+            Ok(()) => {
+                self.cache.judge(at, by);
+                Ok(self.cache.kept(at))
+            }
             Err(fault) => Err(fault),
         }
     }

@@ -2,9 +2,11 @@
 //! compared.
 #![tactic(auto)]
 
+mod judged;
 mod kept;
 mod pages;
 
+use crate::judged::{tell_marks, write_keys};
 use crate::kept::{Counted, tell_at, write_byte, write_page};
 use crate::pages::{tell_bytes, tell_changed, tell_laid, tell_page};
 use drda_disk::{FuseDisk, MemDisk};
@@ -52,6 +54,8 @@ fn answer(
         "lay" => tell_laid(alloc, rest, out),
         "write" => write_page(alloc, pager, rest),
         "at" => tell_at(alloc, pager, rest, out),
+        "keys" => write_keys(alloc, pager, rest),
+        "judged" => tell_marks(alloc, pager, rest, out),
         "forget" => {
             pager.forget();
             Ok(())

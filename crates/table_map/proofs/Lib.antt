@@ -8,3 +8,4 @@ mod Lent
 mod Opened
 mod Passed
 mod Told
+mod Joined

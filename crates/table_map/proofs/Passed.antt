@@ -93,7 +93,7 @@ module _ (key_of : List ℕ → List ℕ) where
   pub none_passes : (changes : Rows) (old : List (List ℕ)) → Passes key_of [] changes changes old old
   none_passes changes old = record { same = λ rest up rising. refl; rising = λ up. up }
 
-  both_pass : (a b : List (List ℕ)) (changes mid last : Rows) (old new end : List (List ℕ)) → Passes key_of a changes mid old new → Passes key_of b mid last new end → Passes key_of (a ++ b) changes last old end
+  pub both_pass : (a b : List (List ℕ)) (changes mid last : Rows) (old new end : List (List ℕ)) → Passes key_of a changes mid old new → Passes key_of b mid last new end → Passes key_of (a ++ b) changes last old end
   both_pass a b changes mid last old new end first second =
       record {
         same = λ rest up rising.

@@ -1,5 +1,6 @@
 pub mod Cursor
 pub mod Damage
+pub mod Judged
 pub mod Keyed
 pub mod Lending
 pub mod Passing

@@ -1,5 +1,6 @@
 //! The rows of one page, put behind others with the changes in front of each.
-ghost use Rattle.std.specs.Prelude.{◌≡◌, ◌+◌, ◌≤◌, ◌++◌, ◌∷◌, [], ℕ, List, IsTrue, IfErr, OnOk, length, map};
+ghost use Rattle.std.specs.Prelude.{◌≡◌, ◌+◌, ◌<◌, ◌≤◌, ◌++◌, ◌∷◌, [], ℕ, List, IsTrue, IfErr, IfOk, OnOk, Some, length, map, option_map, true};
+ghost use Rattle.std.specs.Arc.{arc_value};
 ghost use Rattle.drda_words.specs.Place.{part};
 ghost use Rattle.drda_disk.specs.Disk.{Stays};
 ghost use Rattle.row_pages.specs.Page.{IsPage};
@@ -8,16 +9,23 @@ ghost use Rattle.row_pages.specs.declared.kept.PageFault.TheVariants.{NoMemory};
 ghost use Rattle.key_map.specs.Merging.{InOrder, merged};
 ghost use Rattle.key_map.specs.Overlay.{change_of};
 ghost use Rattle.table_map.specs.Damage.{DamagedWhere, HasNoRows};
+ghost use Rattle.row_pages.specs.Judging.{AreJudged};
+ghost use Rattle.row_values.specs.Schema.{Schema};
+ghost use Rattle.table_map.specs.Judged.{LieWithin, PassesJudged};
+ghost use Rattle.table_map.specs.Keyed.{seen};
 ghost use Rattle.table_map.specs.Passing.{Passes, row_said};
 ghost use Rattle.table_map.specs.Table.{without_keys};
 
 use crate::RowKeys;
 use crate::changes::ChangesLeft;
+use crate::pages::Bounds;
 use drda_disk::Disk;
 use key_map::laws::changes_and_rows_in_turn;
-use row_pages::{KeptPage, PageFault, PageKind, Pager};
+use row_pages::{JudgedPage, KeptPage, PageFault, PageKind, Pager};
+use row_values::Schema;
 use std::alloc::{AllocError, Global};
 use std::cmp::Ordering;
+use std::sync::Arc;
 use tables::Rows;
 
 /// Puts the row of a change behind others, if it is one.
@@ -65,29 +73,69 @@ fn push_page<K: RowKeys>(
     Ok(())
 }
 
+/// Whether the rows of a page lie between these keys: the first one's does not come before the first, and
+/// the last one's comes before the end.
+fn lie_within<K: RowKeys>(keys: &K, page: &KeptPage, bounds: Bounds<'_>) -> bool
+    requires { 0 < length page.now.rows }
+    ensures { IsTrue result → LieWithin (K.key_of keys.now) bounds.entry.first.now (seen bounds.entry.end) page.now.rows }
+{
+    if keys.compare(bounds.first, page.row(0)).is_gt() {
+        return false;
+    }
+    match bounds.end {
+        Some(end) => keys.compare(end, page.row(page.len() - 1)).is_gt(),
+        None => true,
+    }
+}
+
+/// Whether a page carries the mark of this schema, where there is one, and its rows lie between these
+/// keys.
+fn is_good<K: RowKeys>(
+    keys: &K,
+    page: &JudgedPage,
+    by: Option<&Arc<Schema, Global>>,
+    bounds: Bounds<'_>,
+) -> bool
+    requires { 0 < length page.now.rows }
+    ensures judged { (schema : Schema) → option_map (λ s. arc_value s.now) by.entry ≡ Some schema → IsTrue result → AreJudged schema page.now.rows }
+    ensures within { IsTrue result → LieWithin (K.key_of keys.now) bounds.entry.first.now (seen bounds.entry.end) page.now.rows }
+{
+    match by {
+        Some(schema) => page.is_marked(schema) && lie_within(keys, page.page(), bounds),
+        None => false,
+    }
+}
+
 /// Puts the rows of the page at an offset behind others, with the changes in front of them or in their
-/// place. A page without rows is damaged.
+/// place. A page without rows is damaged. Whether the page carries the mark of the schema, where there is
+/// one, and lies between these keys.
 pub(crate) fn scan_page<K: RowKeys, D: Disk>(
     alloc: Global,
     keys: &K,
     pager: &mut Pager<D>,
     at: usize,
+    by: Option<&Arc<Schema, Global>>,
+    bounds: Bounds<'_>,
     changes: &mut ChangesLeft<'_>,
     rows: &mut Rows,
-) -> Result<(), PageFault>
+) -> Result<bool, PageFault>
     requires { at + 8192 ≤ length (D.life pager.old).seen }
     ensures rows { (page : List (List ℕ)) → IsTrue D.is_modelled → IsPage (record { kind = PageKind.Rows; rows = page }) (part (D.life pager.old).seen at 8192)
         → OnOk result (Passes (K.key_of keys.now) page changes.old changes.new rows.old rows.new) }
+    ensures judged { (schema : Schema) → option_map (λ s. arc_value s.now) by.entry ≡ Some schema
+        → IfOk result (λ good. IsTrue good → PassesJudged (K.key_of keys.now) schema bounds.entry.first.now (seen bounds.entry.end) changes.old changes.new rows.old rows.new) }
     ensures damaged { IsTrue D.is_modelled → DamagedWhere (HasNoRows (part (D.life pager.old).seen at 8192)) result }
     ensures stays { Stays (D.life pager.old) (D.life pager.new) }
     ensures cause { CountsPageFault result (D.life pager.old).faults (D.life pager.new).faults }
 {
-    let page = pager.page(alloc, at)?;
+    let kept = pager.judged_page(alloc, at, by)?;
+    let page = kept.page();
     if page.len() == 0 {
         return Err(PageFault::Damaged);
     }
+    let good = is_good(keys, kept, by, bounds);
     match push_page(keys, page, changes, rows) {
-        Ok(()) => Ok(()),
+        Ok(()) => Ok(good),
         Err(_) => Err(PageFault::NoMemory),
     }
 }

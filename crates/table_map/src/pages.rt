@@ -1,5 +1,6 @@
 //! The pages of a table.
-ghost use Rattle.std.specs.Prelude.{◌≡◌, ◌+◌, ◌*◌, ◌^◌, ◌<◌, ◌≤◌, ℕ, List, [], None, IsTrue, IfOk, length, map};
+ghost use Rattle.std.specs.Prelude.{◌≡◌, ◌+◌, ◌*◌, ◌^◌, ◌<◌, ◌≤◌, ℕ, List, [], None, IsTrue, IfOk, Some, length, map};
+ghost use Rattle.std.specs.List.{slice_get};
 ghost use Rattle.drda_words.specs.Place.{part};
 ghost use Rattle.drda_disk.specs.Disk.{Stays};
 ghost use Rattle.row_pages.specs.Page.{IsPage};
@@ -7,7 +8,7 @@ ghost use Rattle.row_pages.specs.Laying.{rows_over};
 ghost use Rattle.row_pages.specs.Keeping.{CountsPageFault, TellsDamage};
 ghost use Rattle.key_map.specs.Merging.{InOrder, row_at};
 ghost use Rattle.table_map.specs.Damage.{DamagedWhere, LacksPage};
-ghost use Rattle.table_map.specs.Keyed.{keyed_rows, copied};
+ghost use Rattle.table_map.specs.Keyed.{keyed_rows, copied, seen};
 ghost use Rattle.table_map.specs.Stored.{IsStored};
 
 use crate::RowKeys;
@@ -34,6 +35,24 @@ impl Model for TablePages {
     ghost view = { λ p. record { at = p.at; keys = map (λ k. k.items) p.first_keys.items } };
 
     ghost invariant = { λ p. p.at + 8192 * length p.first_keys.items ≤ 2 ^ 40 };
+}
+
+/// Between which keys the rows of a page lie: the first is the key of its first row, and the other that of
+/// the next page's, where there is one.
+#[derive(Clone, Copy)]
+pub(crate) struct Bounds<'a> {
+    pub(crate) first: &'a [u8],
+    pub(crate) end: Option<&'a [u8]>,
+}
+
+/// The key of a number, where there is one.
+fn key_at(keys: &[Vec<u8>], number: usize) -> Option<&[u8]>
+    ensures { seen result ≡ slice_get (map (λ k. k.items) keys.now) number }
+{
+    match keys.get(number) {
+        Some(key) => Some(key.as_slice()),
+        None => None,
+    }
 }
 
 /// The row of a key in a page, in new memory.
@@ -96,6 +115,18 @@ impl TablePages {
         ensures { result ≡ length self.now.keys }
     {
         self.first_keys.len()
+    }
+
+    /// Between which keys the rows of the page of this number lie.
+    pub(crate) fn bounds(&self, number: usize) -> Bounds<'_>
+        requires { number < length self.now.keys }
+        ensures first { slice_get self.now.keys number ≡ Some result.first.now }
+        ensures end { seen result.end ≡ slice_get self.now.keys (number + 1) }
+    {
+        Bounds {
+            first: self.first_keys[number].as_slice(),
+            end: key_at(&self.first_keys, number + 1),
+        }
     }
 
     /// The rows of all pages, none of which is read yet.

@@ -1,11 +1,15 @@
 //! All rows of a table.
-ghost use Rattle.std.specs.Prelude.{◌≡◌, ◌+◌, ◌*◌, ◌≤◌, ◌++◌, ◌∷◌, ℕ, List, IsTrue, IfOk, OnOk, length};
+ghost use Rattle.std.specs.Prelude.{◌≡◌, ◌+◌, ◌*◌, ◌≤◌, ◌++◌, ◌∷◌, ◌&&◌, ℕ, List, IsTrue, IfOk, OnOk, Some, length, option_map};
+ghost use Rattle.std.specs.Arc.{arc_value};
 ghost use Rattle.drda_disk.specs.Disk.{Stays};
 ghost use Rattle.std.specs.List.{AllByRecursion};
 ghost use Rattle.row_pages.specs.Laying.{IsShort, counted, laid, pages_with};
 ghost use Rattle.row_pages.specs.Keeping.{CountsPageFault};
 ghost use Rattle.table_map.specs.Cursor.{IsLeft};
 ghost use Rattle.table_map.specs.Damage.{DamagedWhere, HasNoRows, SomePage};
+ghost use Rattle.key_map.specs.Overlay.{changes_of};
+ghost use Rattle.row_values.specs.Schema.{Schema};
+ghost use Rattle.table_map.specs.Judged.{IsScanned, RiseByKeys};
 ghost use Rattle.table_map.specs.Stored.{IsStored};
 ghost use Rattle.table_map.specs.Table.{rows_of_table, without_keys};
 
@@ -14,7 +18,9 @@ use crate::page_scan::{push_rest, scan_page};
 use crate::{RowCursor, RowKeys, TableMap};
 use drda_disk::Disk;
 use row_pages::{PAGE_BYTES, PageCount, PageFault, Pager};
+use row_values::Schema;
 use std::alloc::Global;
+use std::sync::Arc;
 use tables::Rows;
 
 /// The bytes of the longest row that stands in a page.
@@ -31,6 +37,13 @@ fn count_row(count: &mut PageCount, row: &[u8]) -> Result<(), PageFault>
     }
     count.push(row);
     Ok(())
+}
+
+/// Whether both are true.
+fn both(first: bool, second: bool) -> bool
+    ensures { result ≡ (first && second) }
+{
+    first && second
 }
 
 impl TableMap {
@@ -65,19 +78,51 @@ impl TableMap {
         ensures stays { Stays (D.life pager.old) (D.life pager.new) }
         ensures cause { CountsPageFault result (D.life pager.old).faults (D.life pager.new).faults }
     {
+        match self.scan_judged(alloc, keys, pager, None, rows) {
+            Ok(_) => Ok(()),
+            Err(fault) => Err(fault),
+        }
+    }
+
+    /// The same, each page judged by a schema, where there is one. Whether all rows that the pages gave are
+    /// rows of it, and rise by their keys over all pages: then what was put behind the others is rows of
+    /// the schema in the order of their keys, with the changes among them, whatever the device. A page that
+    /// carries the schema's mark is not judged again.
+    pub fn scan_judged<K: RowKeys, D: Disk>(
+        &self,
+        alloc: Global,
+        keys: &K,
+        pager: &mut Pager<D>,
+        by: Option<&Arc<Schema, Global>>,
+        rows: &mut Rows,
+    ) -> Result<bool, PageFault>
+        requires { self.now.places.at + 8192 * length self.now.places.keys ≤ length (D.life pager.old).seen }
+        ensures rows { (pages : List (List (List ℕ))) → IsTrue D.is_modelled → IsStored (K.key_of keys.now) self.now.places pages (D.life pager.old).seen
+            → OnOk result (rows.new ≡ rows.old ++ without_keys (rows_of_table (K.key_of keys.now) self.now pages)) }
+        ensures judged { (schema : Schema) → option_map (λ s. arc_value s.now) by.entry ≡ Some schema → RiseByKeys (K.key_of keys.now) schema
+            → IfOk result (λ judged. IsTrue judged → IsScanned (K.key_of keys.now) schema (changes_of self.now.overlay) rows.old rows.new) }
+        ensures damaged { IsTrue D.is_modelled → DamagedWhere (SomePage HasNoRows (D.life pager.old).seen self.now.places.at (length self.now.places.keys)) result }
+        ensures stays { Stays (D.life pager.old) (D.life pager.new) }
+        ensures cause { CountsPageFault result (D.life pager.old).faults (D.life pager.new).faults }
+    {
         let at = self.pages.at();
         let mut changes = ChangesLeft::new(self.overlay.entries());
+        let mut judged = true;
         for page in 0..self.pages.count() {
-            scan_page(
+            let good = scan_page(
                 alloc,
                 keys,
                 pager,
                 at + PAGE_BYTES * page,
+                by,
+                self.pages.bounds(page),
                 &mut changes,
                 rows,
             )?;
+            judged = both(judged, good);
         }
-        push_rest(&mut changes, rows)
+        push_rest(&mut changes, rows)?;
+        Ok(judged)
     }
 
     /// How many pages all rows take when they are laid anew, one behind another; nothing is written.

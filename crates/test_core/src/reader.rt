@@ -1,13 +1,16 @@
 //! Rows of tables without pages.
 
+ghost use Rattle.std.specs.Prelude.{◌≡◌, IfOk, IsTrue, true};
+ghost use Rattle.tables.specs.Tables.{schema_of};
+ghost use Rattle.paged_tables.specs.Judged.{may_be_rows};
+ghost use Rattle.paged_tables.specs.PagedTables.{store_in};
 ghost use Rattle.paged_tables.specs.TablesByName.{LieInside};
 
 use ahead_view::ReadError;
 use drda_disk::MemDisk;
-use paged_tables::PagedTables;
+use paged_tables::{JudgedRows, PagedTables};
 use row_pages::{PageCache, PageFault, Pager};
 use std::alloc::Global;
-use tables::Rows;
 
 /// The row of a key in a table of tables that have no pages: it is read by a device without bytes.
 pub fn read_row(
@@ -27,12 +30,17 @@ pub fn read_row(
 }
 
 /// All rows of a table, likewise.
-pub fn read_rows(alloc: Global, tables: &PagedTables, table: &str) -> Result<Rows, ReadError>
+pub fn read_rows(
+    alloc: Global,
+    tables: &PagedTables,
+    table: &str,
+) -> Result<JudgedRows, ReadError>
     requires { LieInside 0 tables.now.tables }
+    ensures { IfOk result (λ judged. IsTrue judged.are_judged → may_be_rows (schema_of (store_in tables.now) table.now) judged.rows ≡ true) }
 {
     let cache = PageCache::new(alloc, 1)?;
     let mut pager = Pager::over(MemDisk::new(alloc, 0)?, cache);
-    match tables.rows(alloc, &mut pager, table) {
+    match tables.judged_rows(alloc, &mut pager, table) {
         Ok(rows) => Ok(rows),
         Err(fault) => Err(unread(fault)),
     }

@@ -2,9 +2,8 @@
 
 use crate::reader::{read_row, read_rows};
 use ahead_view::{ReadError, Source};
-use paged_tables::PagedTables;
+use paged_tables::{JudgedRows, PagedTables};
 use std::alloc::Global;
-use tables::Rows;
 use unit_records::{GroupError, RecordContents, RecordError, Recorder};
 
 /// Records as another one does, and reads rows of tables that have no pages.
@@ -62,7 +61,7 @@ impl<R> Source for Unpaged<R> {
         alloc: Global,
         tables: &PagedTables,
         table: &str,
-    ) -> Result<Rows, ReadError> {
+    ) -> Result<JudgedRows, ReadError> {
         read_rows(alloc, tables, table)
     }
 

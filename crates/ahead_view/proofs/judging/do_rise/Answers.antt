@@ -2,8 +2,8 @@
 use Rattle.std.proofs.Common.{◌≡◌, ◌∙◌, IfSome, List, Some, ap, drop, option_map, subst, sym, ℕ, ◌+◌}
 use Rattle.row_values.specs.RowView.{row_in, schema_in}
 use Rattle.row_values.specs.Schema.{Schema}
-use Rattle.ahead_view.specs.Judging.{do_rise, go_on}
-use Rattle.ahead_view.proofs.Rising.{all_rise, behind_is, no_row, not_behind, one_more}
+use Rattle.row_pages.specs.Judging.{do_rise, go_on}
+use Rattle.row_pages.proofs.Rising.{all_rise, behind_is, no_row, not_behind, one_more}
 use Rattle.ahead_view.proofs.judging.do_rise.Goals as goal
 
 pub loop-i-init : goal.loop-i-init

@@ -6,7 +6,8 @@ use Rattle.row_values.specs.KeyValues.{values_left}
 use Rattle.row_values.specs.RowView.{row_in, schema_in}
 use Rattle.row_values.specs.Schema.{Schema}
 use Rattle.row_values.specs.Value.{value_of}
-use Rattle.ahead_view.proofs.Comparing.{another_key, end_as, good_as, is_column, more_to_come, no_key, place_at, same_key, same_so_far, within_as}
+use Rattle.row_pages.proofs.Comparing.{end_as, good_as, is_column, place_at, within_as}
+use Rattle.ahead_view.proofs.Comparing.{another_key, more_to_come, no_key, same_key, same_so_far}
 use Rattle.ahead_view.proofs.judging.is_at_key.Goals as goal
 
 pub returns-then-not-is_key : goal.returns-then-not-is_key

@@ -4,7 +4,7 @@ use Rattle.row_values.specs.Key.{key_values}
 use Rattle.row_values.specs.KeyValues.{values_left}
 use Rattle.row_values.specs.RowView.{row_in, schema_in}
 use Rattle.row_values.proofs.KeyOrder.{OrderedFrom}
-use Rattle.ahead_view.proofs.Comparing.{keyed}
+use Rattle.row_pages.proofs.Comparing.{keyed}
 use Rattle.ahead_view.proofs.judging.is_at_key.Given as goal
 
 abbrev pub invariant-loop-place : goal.invariant-loop-place

@@ -1,4 +1,4 @@
-use Rattle.std.proofs.Common.{◌≡◌, List, ℕ, [], ◌∷◌, length, arith, subst}
+use Rattle.std.proofs.Common.{◌≡◌, List, ℕ, [], ◌∷◌, length, arith, subst, ap, ◌∙◌}
 use Rattle.row_pages.specs.Page.{Page}
 use Rattle.row_pages.specs.declared.page.PageKind.TheVariants as kind
 use Rattle.row_pages.proofs.PageBytes.{one_page}
@@ -12,10 +12,21 @@ none_left (row ∷ rows) is = absurd (omega (arith, is))
 
 pub returns-then-len-eq0-clause-damaged : goal.returns-then-len-eq0-clause-damaged
 returns-then-len-eq0-clause-damaged g c honest =
-    no_rows c.in_ok-page.page.now _ (c.in_ok-page.ensures.page honest) (none_left c.in_ok-page.page.now.rows (omega (arith, c.len.ensures, c.if-len-eq0.true)))
+    no_rows c.in_ok-kept.kept.now _ (c.in_ok-kept.ensures.page honest) (none_left c.in_ok-kept.kept.now.rows (omega (arith, c.len.ensures, c.if-len-eq0.true, ap (λ (p : Page). length p.rows) c.page-page.ensures)))
 
 pub returns-in-Ok-clause-rows : goal.returns-in-Ok-clause-rows
 returns-in-Ok-clause-rows g c page honest is =
     let key_of = g.K.RowKeys.key_of c.args.keys.now in
-    let same = one_page c.in_ok-page.page.now (record { kind = kind.Rows; rows = page }) _ (c.in_ok-page.ensures.page honest) is in
+    let same = c.page-page.ensures ∙ one_page c.in_ok-kept.kept.now (record { kind = kind.Rows; rows = page }) _ (c.in_ok-kept.ensures.page honest) is in
     subst (λ (p : Page). Passes key_of p.rows c.args.changes.now c.push_page.new.changes c.args.rows.now c.push_page.new.rows) same c.in-Ok.ensures
+
+pub returns-in-Ok-clause-judged : goal.returns-in-Ok-clause-judged
+returns-in-Ok-clause-judged g c schema is good =
+    let key_of = g.K.RowKeys.key_of c.args.keys.now in
+    record {
+      page = c.in_ok-kept.kept.now.rows;
+      some = omega (arith, c.if-len-eq0.false, c.len.ensures, ap (λ (p : Page). length p.rows) c.page-page.ensures);
+      judged = c.is_good-good.ensures.judged schema is good;
+      within = c.is_good-good.ensures.within good;
+      passes = subst (λ (p : Page). Passes key_of p.rows c.args.changes.now c.push_page.new.changes c.args.rows.now c.push_page.new.rows) c.page-page.ensures c.in-Ok.ensures;
+    }

@@ -1,6 +1,7 @@
 -- Rows that are judged one behind another are rows of the schema whose keys rise.
-use Rattle.std.proofs.Common.{◌≡◌, ◌+◌, ℕ, List, [], ◌∷◌, Bool, true, false, ◌&&◌, refl, sym, ap, ◌∙◌, drop, map, Option, Some, None}
+use Rattle.std.proofs.Common.{◌≡◌, ◌+◌, ℕ, List, [], ◌∷◌, Bool, true, false, ◌&&◌, refl, sym, ap, ◌∙◌, drop, map, Option, Some, None, Ordering, Less, Equal, Greater}
 use Rattle.std.specs.List.{list_all, slice_get}
+use Rattle.std.specs.Cmp.{IsTotalOrder}
 use Rattle.std.specs.Ordering.{is_lt}
 use Rattle.drda_words.specs.Order.{rises}
 use Rattle.row_values.specs.Key.{key_cmp, row_key}
@@ -8,8 +9,22 @@ use Rattle.row_values.specs.Row.{is_row}
 use Rattle.row_values.specs.Schema.{Schema}
 use Rattle.row_values.proofs.KeyOrder.{key_cmp_total}
 use Rattle.row_values.proofs.ReadSteps.{drop_at}
-use Rattle.tables.proofs.Keeping.{before_all, before_trans, less_is}
-use Rattle.ahead_view.specs.Judging.{do_rise, go_on, is_behind}
+use Rattle.row_values.proofs.ValueLaws.{both_true, first_true, second_true}
+use Rattle.row_pages.specs.Judging.{do_rise, go_on, is_behind}
+
+pub less_is : (o : Ordering) → is_lt o ≡ true → o ≡ Less
+less_is Less h = refl
+less_is Equal h = absurd cc
+less_is Greater h = absurd cc
+
+-- a key comes before all of a list
+abbrev before_all : (List ℕ → List ℕ → Ordering) → List ℕ → List (List ℕ) → Bool
+before_all R k ks = list_all (λ later. is_lt (R k later)) ks
+
+before_trans : (R : List ℕ → List ℕ → Ordering) → IsTotalOrder R → (a b : List ℕ) (ks : List (List ℕ)) → R a b ≡ Less → before_all R b ks ≡ true → before_all R a ks ≡ true
+before_trans R o a b [] lt h = refl
+before_trans R o a b (k ∷ ks) lt h =
+    both_true (is_lt (R a k)) (before_all R a ks) (ap is_lt (o.trans a b k lt (less_is (R b k) (first_true (is_lt (R b k)) (before_all R b ks) h)))) (before_trans R o a b ks lt (second_true (is_lt (R b k)) (before_all R b ks) h))
 
 -- rows of the schema with rising keys, all of which come behind this row's
 abbrev rise_behind : Schema → List ℕ → List (List ℕ) → Bool

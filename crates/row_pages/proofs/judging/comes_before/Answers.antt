@@ -2,8 +2,8 @@
 use Rattle.std.proofs.Common.{◌∙◌, Equal, Greater, Less, refl, sym}
 use Rattle.row_values.specs.RowView.{row_in, schema_in}
 use Rattle.row_values.specs.Value.{value_of}
-use Rattle.ahead_view.proofs.Comparing.{both_at, end_as, first_differs, fit_as, good_as, is_column, is_column_as, none_differs, place_at, value_as}
-use Rattle.ahead_view.proofs.judging.comes_before.Goals as goal
+use Rattle.row_pages.proofs.Comparing.{both_at, end_as, first_differs, fit_as, good_as, is_column, is_column_as, none_differs, place_at, value_as}
+use Rattle.row_pages.proofs.judging.comes_before.Goals as goal
 
 pub column-requires : goal.column-requires
 column-requires c =

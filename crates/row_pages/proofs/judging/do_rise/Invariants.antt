@@ -1,0 +1,10 @@
+-- The rows go on exactly where the rest of them goes on behind the last one.
+use Rattle.std.proofs.Common.{◌≡◌, IfSome, drop, option_map}
+use Rattle.std.specs.List.{AllByRecursion}
+use Rattle.drda_words.specs.Bytes.{AreBytes}
+use Rattle.row_values.specs.RowView.{row_in, schema_in}
+use Rattle.row_pages.specs.Judging.{do_rise, go_on}
+use Rattle.row_pages.proofs.judging.do_rise.Given as goal
+
+abbrev pub invariant-loop-i : goal.invariant-loop-i
+invariant-loop-i l = (go_on l.schema (option_map row_in l.last) (drop l.i l.page.rows) ≡ do_rise l.schema l.page.rows) × IfSome l.last (λ last. schema_in last ≡ l.schema) × (AllByRecursion AreBytes (drop l.i l.page.rows) → AllByRecursion AreBytes l.page.rows)

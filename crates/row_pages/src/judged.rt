@@ -1,0 +1,73 @@
+//! A page that is kept, and by which schema it was judged.
+
+ghost use Rattle.std.specs.Prelude.{◌≡◌, IsTrue};
+ghost use Rattle.row_pages.specs.Judging.{AreJudged};
+
+use crate::judging::{are_same, do_rise};
+use crate::kept::KeptPage;
+use row_values::Schema;
+use std::alloc::Global;
+use std::marker::Model;
+use std::sync::Arc;
+
+/// A page that is kept. It may carry a mark, the schema by which it was judged: then its rows are rows of
+/// that schema whose keys rise, whatever the device, since it is the page in memory that was judged.
+/// Contracts see it as its kind and its rows.
+#[derive(Drop)]
+pub struct JudgedPage {
+    page: KeptPage,
+    mark: Option<Arc<Schema, Global>>,
+}
+
+impl Model for JudgedPage {
+    ghost use Rattle.std.specs.Prelude.{IfSome};
+    ghost use Rattle.std.specs.Arc.{arc_value};
+    ghost use Rattle.row_pages.specs.Page.{Page};
+    ghost use Rattle.row_pages.specs.Judging.{AreJudged};
+
+    ghost Value = { Page };
+
+    ghost view = { λ p. p.page };
+
+    ghost invariant = { λ p. IfSome p.mark (λ schema. AreJudged (arc_value schema) p.page.rows) };
+}
+
+impl JudgedPage {
+    /// A page that was not judged yet.
+    pub(crate) fn new(page: KeptPage) -> JudgedPage
+        ensures { result ≡ page }
+    {
+        JudgedPage { page, mark: None }
+    }
+
+    /// The page.
+    pub fn page(&self) -> &KeptPage
+        ensures { result.now ≡ self.now }
+    {
+        &self.page
+    }
+
+    /// Whether it carries the mark of this schema: then its rows are rows of the schema whose keys rise.
+    /// No row is looked at.
+    pub fn is_marked(&self, schema: &Schema) -> bool
+        ensures { IsTrue result → AreJudged schema.now self.now.rows }
+    {
+        match &self.mark {
+            Some(mark) => are_same(mark, schema),
+            None => false,
+        }
+    }
+
+    /// Marks it with the schema, where it does not carry its mark and its rows are rows of it whose keys
+    /// rise. A page whose rows are not keeps the mark that it has.
+    pub(crate) fn judge(&mut self, schema: &Arc<Schema, Global>)
+        ensures { self.new ≡ self.old }
+    {
+        if self.is_marked(schema) || !do_rise(schema, &self.page) {
+            return;
+        }
+        if let Ok(mark) = Arc::try_clone(schema) {
+            self.mark = Some(mark);
+        }
+    }
+}
