@@ -35,11 +35,11 @@ impl Keeping {
     /// As many of so many bytes as may be kept: they count as kept.
     fn take(&self, bytes: u64) -> u64 {
         let most = self.most;
-        let before =
-            self.kept
-                .fetch_update(Ordering::SeqCst, Ordering::SeqCst, |kept| {
-                    Some(kept.saturating_add(left_of(kept, bytes, most)))
-                });
+        let before = self
+            .kept
+            .fetch_update(Ordering::SeqCst, Ordering::SeqCst, |kept| {
+                Some(kept.saturating_add(left_of(kept, bytes, most)))
+            });
         match before {
             Ok(kept) => left_of(kept, bytes, most),
             Err(_) => 0,
