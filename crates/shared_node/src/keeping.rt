@@ -35,11 +35,11 @@ impl Keeping {
     /// As many of so many bytes as may be kept: they count as kept.
     fn take(&self, bytes: u64) -> u64 {
         let most = self.most;
-        let before =
-            self.kept
-                .fetch_update(Ordering::SeqCst, Ordering::SeqCst, |kept| {
-                    Some(kept.saturating_add(left_of(kept, bytes, most)))
-                });
+        let before = self
+            .kept
+            .fetch_update(Ordering::SeqCst, Ordering::SeqCst, |kept| {
+                Some(kept.saturating_add(left_of(kept, bytes, most)))
+            });
         match before {
             Ok(kept) => left_of(kept, bytes, most),
             Err(_) => 0,
@@ -103,7 +103,7 @@ impl Share {
 
     /// Before a call, under the lock: how many bytes of rows it may be answered, 0 where it asks for none. All of them are kept until `settle`, so
     /// that whoever finds no room meanwhile is to ask again under the lock.
-    pub(crate) fn reserve(&mut self, keeping: &Keeping, call: &CoreCall<'_, '_, '_>) -> usize {
+    pub(crate) fn set_aside(&mut self, keeping: &Keeping, call: &CoreCall<'_, '_, '_>) -> usize {
         if !matches!(call, CoreCall::Query { .. }) {
             return 0;
         }
