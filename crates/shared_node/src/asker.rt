@@ -180,7 +180,7 @@ impl<'a, D: Disk, B: Origin<D>, R: Wait + Clock, G: Gate> Ask for Asker<'a, D, B
         let (mut hold, leads) = self.come(&wished);
         let held = &mut *hold.guard;
         let waiting = &self.shared.waiting;
-        let reserved = self.share.reserve(&self.shared.keeping, call);
+        let reserved = self.share.set_aside(&self.shared.keeping, call);
         held.bound_rows(reserved);
         let acted = held.take_turn(self.rt, waiting, &mut self.pass, call, &wished);
         self.share.settle(&self.shared.keeping, reserved, &acted);

@@ -103,7 +103,7 @@ impl Share {
 
     /// Before a call, under the lock: how many bytes of rows it may be answered, 0 where it asks for none. All of them are kept until `settle`, so
     /// that whoever finds no room meanwhile is to ask again under the lock.
-    pub(crate) fn reserve(&mut self, keeping: &Keeping, call: &CoreCall<'_, '_, '_>) -> usize {
+    pub(crate) fn set_aside(&mut self, keeping: &Keeping, call: &CoreCall<'_, '_, '_>) -> usize {
         if !matches!(call, CoreCall::Query { .. }) {
             return 0;
         }
