@@ -131,10 +131,12 @@ impl<D: Disk> Keeper<D> {
     /// All rows of a table.
     pub fn rows(&mut self, table: &str) -> Result<Rows, ReadError> {
         match self.recorder.rows(self.alloc, &self.tables, table) {
-            Ok(JudgedRows {
-                rows,
-                are_judged: _,
-            }) => Ok(rows),
+            Ok(
+                JudgedRows {
+                    rows,
+                    are_judged: _,
+                },
+            ) => Ok(rows),
             Err(ReadError::NoMemory) => Err(ReadError::NoMemory),
             Err(ReadError::DeviceFailed) => Err(ReadError::DeviceFailed),
         }

@@ -16,8 +16,8 @@ ghost use Rattle.tables.specs.Applied.{apply_all};
 ghost use Rattle.tables.specs.ChangeView.{change_of};
 
 use crate::lending::TablesLeft;
-use crate::stored_table::JudgedRows;
 use crate::steps::{Step, apply_all, release_all, reserve_all};
+use crate::stored_table::JudgedRows;
 use crate::tables_by_name::TablesByName;
 use drda_disk::Disk;
 use row_pages::{PageFault, Pager};
@@ -107,10 +107,12 @@ impl PagedTables {
         ensures cause { CountsPageFault result (D.life pager.old).faults (D.life pager.new).faults }
     {
         match self.judged_rows(alloc, pager, table) {
-            Ok(JudgedRows {
-                rows,
-                are_judged: _,
-            }) => Ok(rows),
+            Ok(
+                JudgedRows {
+                    rows,
+                    are_judged: _,
+                },
+            ) => Ok(rows),
             Err(fault) => Err(fault),
         }
     }

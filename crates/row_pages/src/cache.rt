@@ -147,11 +147,7 @@ impl PageCache {
 }
 
 // The page at an offset is judged by a schema.
-fn judge_at(
-    pages: &mut LruCache<usize, JudgedPage>,
-    at: usize,
-    schema: &Arc<Schema, Global>,
-)
+fn judge_at(pages: &mut LruCache<usize, JudgedPage>, at: usize, schema: &Arc<Schema, Global>)
     ensures { pages.new ≡ pages.old }
 {
     match pages.peek_mut(&at) {

@@ -30,11 +30,7 @@ pub fn read_row(
 }
 
 /// All rows of a table, likewise.
-pub fn read_rows(
-    alloc: Global,
-    tables: &PagedTables,
-    table: &str,
-) -> Result<JudgedRows, ReadError>
+pub fn read_rows(alloc: Global, tables: &PagedTables, table: &str) -> Result<JudgedRows, ReadError>
     requires { LieInside 0 tables.now.tables }
     ensures { IfOk result (λ judged. IsTrue judged.are_judged → may_be_rows (schema_of (store_in tables.now) table.now) judged.rows ≡ true) }
 {
