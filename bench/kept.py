@@ -7,7 +7,8 @@ FIGURES = pathlib.Path(__file__).resolve().parent / "figures"
 
 def keep(subject, rows, machine=os.environ.get("MACHINE")):
     """Puts rows, each as its columns by their names, into the figures of a subject. A row that has the same values as one of the
-    file in the columns of the file's `key` is written over it; others are new. bench/draw_figures makes the page of them."""
+    file in the columns of the file's `key` is written over it; others are new; what the file has no column for
+    is left out. bench/draw_figures makes the page of them."""
     if not machine:
         return
     path = FIGURES / f"{subject}.json"
@@ -19,7 +20,8 @@ def keep(subject, rows, machine=os.environ.get("MACHINE")):
             known = [None] * len(columns)
             figures["values"].append(known)
         for name, value in row.items():
-            known[columns.index(name)] = value
+            if name in columns:
+                known[columns.index(name)] = value
     today = datetime.date.today()
     figures |= {"machine": machine, "date": f"{today.day} {today:%B %Y}"}
     path.write_text(written(figures))
