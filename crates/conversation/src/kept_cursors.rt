@@ -35,6 +35,12 @@ impl KeptCursors {
         }
     }
 
+    /// Whether none is kept, and none is being opened.
+    #[inline(always)]
+    pub(crate) fn is_idle(&self) -> bool {
+        !self.is_opening && self.cursors.is_empty()
+    }
+
     /// Lets a command be done. AllocError where it would open a cursor, and those that are open keep as much as they may already.
     pub(crate) fn admit(
         &mut self,

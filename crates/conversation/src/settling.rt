@@ -8,7 +8,9 @@ use command_kit::Ask;
 use dss_frames::Segments;
 use std::alloc::Global;
 
-/// Behind a command: the memory of a long one is given back, and whoever is asked is told what is kept.
+/// Behind a command: where something is kept or was told, the memory of a long command is given back, and whoever is asked is told what
+/// is kept.
+#[inline(always)]
 pub(crate) fn settle<A: Ask>(
     alloc: Global,
     segments: &mut Segments,
@@ -19,6 +21,9 @@ pub(crate) fn settle<A: Ask>(
     ensures at_fault { segments.new.at_fault ≡ segments.old.at_fault }
     ensures standing { standing_of state.new asker.new ≡ standing_of state.old asker.old }
 {
+    if state.told.is_nothing() && state.cursors.is_idle() {
+        return;
+    }
     if state.told.is_long() {
         segments.release(alloc);
     }
@@ -26,7 +31,7 @@ pub(crate) fn settle<A: Ask>(
 }
 
 // Whoever is asked is told what is kept.
-#[inline(always)]
+#[inline(never)]
 fn tell<A: Ask>(state: &mut State, asker: &mut A)
     ensures { standing_of state.new asker.new ≡ standing_of state.old asker.old }
 {

@@ -30,6 +30,12 @@ impl Told {
         }
     }
 
+    /// Whether nothing was told, and nothing refused.
+    #[inline(always)]
+    pub(crate) fn is_nothing(&self) -> bool {
+        self.command == 0 && self.rows == 0 && !self.is_refused
+    }
+
     /// Whether the command under way is long.
     pub(crate) fn is_long(&self) -> bool {
         self.command > 0

@@ -2,7 +2,7 @@
 ghost use Rattle.std.specs.Prelude.{◌≡◌, ◌≤◌, false, IfOk};
 ghost use Rattle.drda_disk.specs.File.{unknown, no_image};
 
-use drda_disk::{FileFault, FilePlace, PositionalFile};
+use drda_disk::{FileFault, FilePlace, Flushed, Flusher, PositionalFile};
 use std::io::{self, ErrorKind};
 
 /// Sixteen bytes in memory.
@@ -105,6 +105,14 @@ impl PositionalFile for FakeFile {
             return Err(ErrorKind::Other.into());
         }
         Ok(())
+    }
+
+    fn flusher(&self) -> Flusher {
+        Flusher::nothing()
+    }
+
+    fn settle(&mut self, _flushed: Flushed) -> io::Result<()> {
+        self.sync()
     }
 }
 

@@ -185,7 +185,7 @@ impl Files {
         number: usize,
         out: &mut String,
     ) -> Result<(), AllocError> {
-        let mut place = FilePath::new(rt, path);
+        let mut place = FilePath::new(rt.alloc(), rt, path);
         match verb {
             "create" => take(&mut self.real, &mut place, Some(number), out),
             "open" => take(&mut self.real, &mut place, None, out),

@@ -3,6 +3,7 @@ ghost use Rattle.std.specs.Prelude.{◌≡◌, ◌+◌, ◌-◌, ◌^◌, ◌≤
 ghost use Rattle.drda_words.specs.Place.{part};
 ghost use Rattle.drda_disk.specs.Disk.{Life, overlaid, Stays, Tears, Only, Now, CountsFault};
 
+use crate::{Flushed, Flusher};
 use thiserror::Error;
 
 /// A call to the device failed.
@@ -63,6 +64,17 @@ pub trait Disk {
 
     /// Once it succeeds, a crash leaves what is read and nothing else.
     fn sync(&mut self) -> Result<(), DiskFault>
+        ensures durable { OnOk result (Only (life self.new)) }
+        ensures stays { Stays (life self.old) (life self.new) }
+        ensures call { syncs self.old (is_ok result) self.new }
+        ensures faults { CountsFault result (life self.old).faults (life self.new).faults };
+
+    /// What flushes it from outside, while others read it; made under the lock that its writes are made under.
+    fn flusher(&self) -> Flusher;
+
+    /// As `sync`, after a flush: free where it succeeded and no write came since its flusher was made, an error where it
+    /// failed, and else a sync.
+    fn settle(&mut self, flushed: Flushed) -> Result<(), DiskFault>
         ensures durable { OnOk result (Only (life self.new)) }
         ensures stays { Stays (life self.old) (life self.new) }
         ensures call { syncs self.old (is_ok result) self.new }

@@ -7,7 +7,7 @@ ghost use Rattle.drda_disk.specs.Count.{count_of};
 
 use crate::count::FaultCount;
 use crate::transfer::{read_all, write_all};
-use crate::{DeviceFault, Disk, DiskFault, FilePlace, PositionalFile};
+use crate::{DeviceFault, Disk, DiskFault, FilePlace, Flushed, Flusher, PositionalFile};
 use std::io;
 use thiserror::Error;
 
@@ -201,5 +201,27 @@ impl<F: PositionalFile> Disk for FileDisk<F> {
                 Err(self.note(DeviceFault::System(error.kind())))
             }
         }
+    }
+
+    fn flusher(&self) -> Flusher {
+        self.file.flusher()
+    }
+
+    fn settle(&mut self, flushed: Flushed) -> Result<(), DiskFault>
+        ensures durable { OnOk result (Only (life_of F.life self.new)) }
+        ensures stays { Stays (life_of F.life self.old) (life_of F.life self.new) }
+        ensures faults { CountsFault result (life_of F.life self.old).faults (life_of F.life self.new).faults }
+        ensures named { OnErr result (IsSome (last_fault_of self.new)) }
+        ensures loses { OnErr result (IsTrue (has_lost_sync self.new)) }
+        ensures lost { IsTrue (has_lost_sync self.old) → IsErr result × (file_of self.new ≡ file_of self.old) }
+    {
+        if self.has_lost_sync {
+            return Err(self.note(DeviceFault::SyncFailed));
+        }
+        if let Err(error) = self.file.settle(flushed) {
+            self.has_lost_sync = true;
+            return Err(self.note(DeviceFault::System(error.kind())));
+        }
+        Ok(())
     }
 }

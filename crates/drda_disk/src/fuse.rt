@@ -6,7 +6,7 @@ ghost use Rattle.drda_disk.specs.Fuse.{with_more_faults, left_after};
 ghost use Rattle.drda_disk.specs.Count.{count_of};
 
 use crate::count::FaultCount;
-use crate::{Disk, DiskFault, MemDisk};
+use crate::{Disk, DiskFault, Flushed, Flusher, MemDisk};
 use std::alloc::{AllocError, Global};
 
 /// Passes so many calls of `read_at`, `write_at` and `sync` on to the disk inside, and then fails:
@@ -197,5 +197,25 @@ impl<D: Disk> Disk for FuseDisk<D> {
             return Err(DiskFault);
         }
         self.inner.sync()
+    }
+
+    fn flusher(&self) -> Flusher {
+        self.inner.flusher()
+    }
+
+    fn settle(&mut self, flushed: Flushed) -> Result<(), DiskFault>
+        ensures durable { OnOk result (Only (life_of D.life self.new)) }
+        ensures stays { Stays (life_of D.life self.old) (life_of D.life self.new) }
+        ensures faults { CountsFault result (life_of D.life self.old).faults (life_of D.life self.new).faults }
+        ensures called { IsCalled self.old self.new }
+        ensures blown { left_of self.old ≡ Some 0 → IsErr result × IsRefused self.old self.new }
+        ensures passed { left_of self.old ≢ Some 0 → IsPassed D.life result self.old self.new }
+        ensures call { left_of self.old ≢ Some 0 → D.syncs (inner_of self.old) (is_ok result) (inner_of self.new) }
+    {
+        if !self.fuse.passes() {
+            self.faults.raise();
+            return Err(DiskFault);
+        }
+        self.inner.settle(flushed)
     }
 }

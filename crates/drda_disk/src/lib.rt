@@ -4,6 +4,7 @@
 mod count;
 mod disk;
 mod file;
+mod flush;
 mod fuse;
 mod history;
 mod laws;
@@ -17,6 +18,7 @@ mod transfer;
 
 pub use disk::{Disk, DiskFault};
 pub use file::{FileDisk, FileFault};
+pub use flush::{Flushed, Flusher};
 pub use fuse::FuseDisk;
 pub use laws::a_write_is_read_back;
 pub use memory::MemDisk;

@@ -10,7 +10,7 @@ ghost use Rattle.drda_disk.specs.Count.{count_of};
 use crate::count::FaultCount;
 use crate::history::History;
 use crate::replay::{Write, history_of, leave_all, overwrite, record_write, redo_all};
-use crate::{Disk, DiskFault};
+use crate::{Disk, DiskFault, Flushed, Flusher};
 use std::alloc::{AllocError, Global};
 
 /// A disk in memory. It keeps what was read at the last sync and a record of the writes since, so
@@ -191,5 +191,20 @@ impl Disk for MemDisk {
         self.written.clear();
         self.history.note_sync();
         Ok(())
+    }
+
+    fn flusher(&self) -> Flusher {
+        Flusher::nothing()
+    }
+
+    fn settle(&mut self, _flushed: Flushed) -> Result<(), DiskFault>
+        ensures durable { OnOk result (Only (life_of self.new)) }
+        ensures stays { Stays (life_of self.old) (life_of self.new) }
+        ensures call { (read_of self.new ≡ read_of self.old) × (synced_of self.new ≡ read_of self.old) }
+        ensures faults { CountsFault result (life_of self.old).faults (life_of self.new).faults }
+        ensures never { IsOk result }
+        ensures room { (writes n : ℕ) → HasRoom self.old writes n → HasRoom self.new writes n }
+    {
+        self.sync()
     }
 }

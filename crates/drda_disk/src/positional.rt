@@ -4,7 +4,7 @@ ghost use Rattle.drda_words.specs.Place.{part};
 ghost use Rattle.drda_disk.specs.Disk.{Life, overlaid, Stays, Only, Now};
 ghost use Rattle.drda_disk.specs.PositionalFile.{MayTear};
 
-use crate::FileFault;
+use crate::{FileFault, Flushed, Flusher};
 use std::io;
 
 /// A file that is read and written at offsets. As the system's calls do, a read or a write may take
@@ -50,6 +50,14 @@ pub trait PositionalFile {
 
     /// Once it succeeds, a crash leaves what is read and nothing else.
     fn sync(&mut self) -> io::Result<()>
+        ensures durable { OnOk result (Only (life self.new)) }
+        ensures stays { Stays (life self.old) (life self.new) };
+
+    /// What flushes it while it is read.
+    fn flusher(&self) -> Flusher;
+
+    /// As `sync`, after a flush.
+    fn settle(&mut self, flushed: Flushed) -> io::Result<()>
         ensures durable { OnOk result (Only (life self.new)) }
         ensures stays { Stays (life self.old) (life self.new) };
 

@@ -3,17 +3,22 @@
 ghost use Rattle.std.specs.Prelude.{false, true};
 ghost use Rattle.drda_disk.specs.File.{unknown, no_image};
 
-use crate::{FileFault, FilePlace, PositionalFile};
+use crate::{FileFault, FilePlace, Flushed, Flusher, PositionalFile};
+use std::alloc::Global;
 use std::fs::{File, OpenOptions, TryLockError};
 use std::os::unix::fs::FileExt;
 use std::path::Path;
 use std::rt::Files;
+use std::sync::Arc;
 use std::{fs, io};
 
-/// An open file of the system.
+/// An open file of the system, and another opening of it, through which it is flushed while it is read; how many writes
+/// have begun.
 #[derive(Drop)]
 pub struct SystemFile {
     file: File,
+    flushed: Option<Arc<File>>,
+    writes: u64,
     len: usize,
 }
 
@@ -42,6 +47,7 @@ impl PositionalFile for SystemFile {
     }
 
     fn lengthen(&mut self, len: usize) -> io::Result<()> {
+        self.writes = self.writes.wrapping_add(1);
         self.file.set_len(len as u64)?;
         self.len = len;
         Ok(())
@@ -52,6 +58,7 @@ impl PositionalFile for SystemFile {
     }
 
     fn write_some(&mut self, at: usize, bytes: &[u8]) -> io::Result<usize> {
+        self.writes = self.writes.wrapping_add(1);
         self.file.write_at(bytes, at as u64)
     }
 
@@ -59,18 +66,46 @@ impl PositionalFile for SystemFile {
     fn sync(&mut self) -> io::Result<()> {
         self.file.sync_data()
     }
+
+    fn flusher(&self) -> Flusher {
+        let Some(file) = &self.flushed else {
+            return Flusher::nothing();
+        };
+        match file.clone() {
+            Ok(file) => Flusher::of(file, self.writes),
+            Err(_) => Flusher::nothing(),
+        }
+    }
+
+    fn settle(&mut self, flushed: Flushed) -> io::Result<()> {
+        if let Some(kind) = flushed.fault {
+            return Err(io::Error::from(kind));
+        }
+        if flushed.writes == Some(self.writes) {
+            return Ok(());
+        }
+        self.file.sync_data()
+    }
+}
+
+// Another opening of the file at a path, where it and memory for it can be had. It is one of its own, and no copy of the
+// first one's descriptor, since a fault of the device is told to each opening once.
+fn open_again<R: Files<File = File>>(alloc: Global, rt: &R, path: &str) -> Option<Arc<File>> {
+    let file = OpenOptions::new().write(true).open(rt, path).ok()?;
+    Arc::new(alloc, file).ok()
 }
 
 /// A path of the system.
 #[derive(Drop)]
 pub struct FilePath<'a, R> {
+    alloc: Global,
     rt: &'a R,
     path: &'a str,
 }
 
 impl<'a, R: Files<File = File>> FilePath<'a, R> {
-    pub fn new(rt: &'a R, path: &'a str) -> FilePath<'a, R> {
-        FilePath { rt, path }
+    pub fn new(alloc: Global, rt: &'a R, path: &'a str) -> FilePath<'a, R> {
+        FilePath { alloc, rt, path }
     }
 }
 
@@ -83,7 +118,12 @@ impl<'a, R: Files<File = File>> FilePlace for FilePath<'a, R> {
 
     fn create(&mut self) -> io::Result<SystemFile> {
         let file = File::create_new(self.rt, self.path)?;
-        Ok(SystemFile { file, len: 0 })
+        Ok(SystemFile {
+            file,
+            flushed: open_again(self.alloc, self.rt, self.path),
+            writes: 0,
+            len: 0,
+        })
     }
 
     fn open(&mut self) -> io::Result<SystemFile> {
@@ -92,7 +132,12 @@ impl<'a, R: Files<File = File>> FilePlace for FilePath<'a, R> {
             .write(true)
             .open(self.rt, self.path)?;
         let len = file.metadata()?.len() as usize;
-        Ok(SystemFile { file, len })
+        Ok(SystemFile {
+            file,
+            flushed: open_again(self.alloc, self.rt, self.path),
+            writes: 0,
+            len,
+        })
     }
 
     fn sync_folder(&mut self) -> io::Result<()> {

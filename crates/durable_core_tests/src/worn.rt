@@ -3,7 +3,7 @@
 ghost use Rattle.std.specs.Prelude.{false};
 ghost use Rattle.drda_disk.specs.File.{no_image};
 
-use drda_disk::{Disk, DiskFault};
+use drda_disk::{Disk, DiskFault, Flushed, Flusher};
 use std::alloc::Global;
 
 /// Passes each call on to the disk inside, of which it is not known that it gives back what was written: from some call
@@ -106,5 +106,13 @@ impl<D: Disk> Disk for WornDisk<D> {
     fn sync(&mut self) -> Result<(), DiskFault> {
         let _is_worn = is_over(&mut self.left);
         self.inner.sync()
+    }
+
+    fn flusher(&self) -> Flusher {
+        Flusher::nothing()
+    }
+
+    fn settle(&mut self, _flushed: Flushed) -> Result<(), DiskFault> {
+        self.sync()
     }
 }

@@ -3,7 +3,7 @@
 ghost use Rattle.std.specs.Prelude.{◌≡◌, false};
 ghost use Rattle.drda_disk.specs.File.{no_image};
 
-use drda_disk::{Disk, DiskFault};
+use drda_disk::{Disk, DiskFault, Flushed, Flusher};
 
 /// A disk that passes each call on to the one inside, and of which it is not known that it gives back what was written.
 #[derive(Drop)]
@@ -50,5 +50,13 @@ impl<D: Disk> Disk for Untold<D> {
 
     fn sync(&mut self) -> Result<(), DiskFault> {
         self.inner.sync()
+    }
+
+    fn flusher(&self) -> Flusher {
+        Flusher::nothing()
+    }
+
+    fn settle(&mut self, _flushed: Flushed) -> Result<(), DiskFault> {
+        self.sync()
     }
 }

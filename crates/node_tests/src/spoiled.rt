@@ -3,7 +3,7 @@
 ghost use Rattle.std.specs.Prelude.{◌≡◌, false};
 ghost use Rattle.drda_disk.specs.File.{no_image};
 
-use drda_disk::{Disk, DiskFault};
+use drda_disk::{Disk, DiskFault, Flushed, Flusher};
 
 /// A disk that passes each call on to the one inside. What it reads of one place, if any, is another byte from the second time on that
 /// the place is read.
@@ -82,5 +82,13 @@ impl<D: Disk> Disk for SpoiledDisk<D> {
 
     fn sync(&mut self) -> Result<(), DiskFault> {
         self.inner.sync()
+    }
+
+    fn flusher(&self) -> Flusher {
+        Flusher::nothing()
+    }
+
+    fn settle(&mut self, _flushed: Flushed) -> Result<(), DiskFault> {
+        self.sync()
     }
 }

@@ -11,7 +11,7 @@ ghost use Rattle.row_pages.specs.Keeping.{CountsPageFault, TellsDamage};
 use crate::cache::PageCache;
 use crate::judged::JudgedPage;
 use crate::kept::{KeptPage, PageFault};
-use drda_disk::{Disk, DiskFault};
+use drda_disk::{Disk, DiskFault, Flushed, Flusher};
 use row_values::Schema;
 use std::alloc::Global;
 use std::marker::Model;
@@ -142,5 +142,13 @@ impl<D: Disk> Disk for Pager<D> {
 
     fn sync(&mut self) -> Result<(), DiskFault> {
         self.disk.sync()
+    }
+
+    fn flusher(&self) -> Flusher {
+        self.disk.flusher()
+    }
+
+    fn settle(&mut self, flushed: Flushed) -> Result<(), DiskFault> {
+        self.disk.settle(flushed)
     }
 }

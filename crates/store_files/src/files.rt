@@ -63,6 +63,7 @@ pub trait StoreFiles {
 /// The files of the system.
 #[derive(Drop)]
 pub struct SystemFiles<'a, R> {
+    alloc: Global,
     rt: &'a R,
     reason: String,
 }
@@ -71,6 +72,7 @@ impl<'a, R: Files<File = File>> SystemFiles<'a, R> {
     /// The files that a program has by this handle.
     pub fn new(alloc: Global, rt: &'a R) -> SystemFiles<'a, R> {
         SystemFiles {
+            alloc,
             rt,
             reason: String::new(alloc),
         }
@@ -87,7 +89,7 @@ impl<'a, R: Files<File = File>> StoreFiles for SystemFiles<'a, R> {
     type Disk = FileDisk<SystemFile>;
 
     fn create(&mut self, path: &str, size: usize) -> Result<FileDisk<SystemFile>, FileFault> {
-        let made = make_private(self.rt, path, size);
+        let made = make_private(self.alloc, self.rt, path, size);
         if let Err(fault) = &made {
             self.note(path, fault);
         }
@@ -95,7 +97,7 @@ impl<'a, R: Files<File = File>> StoreFiles for SystemFiles<'a, R> {
     }
 
     fn open(&mut self, path: &str) -> Result<FileDisk<SystemFile>, FileFault> {
-        let opened = FileDisk::open(&mut FilePath::new(self.rt, path));
+        let opened = FileDisk::open(&mut FilePath::new(self.alloc, self.rt, path));
         if let Err(fault) = &opened {
             self.note(path, fault);
         }
@@ -142,11 +144,12 @@ impl<'a, R: Files<File = File>> StoreFiles for SystemFiles<'a, R> {
 
 // A file of so many zeros, on which nobody but its owner has rights. None is left where these can't be set.
 fn make_private<R: Files<File = File>>(
+    alloc: Global,
     rt: &R,
     path: &str,
     size: usize,
 ) -> Result<FileDisk<SystemFile>, FileFault> {
-    let mut place = FilePath::new(rt, path);
+    let mut place = FilePath::new(alloc, rt, path);
     let disk = FileDisk::create(&mut place, size)?;
     match fs::set_permissions(rt, path, Permissions::from_mode(PRIVATE)) {
         Ok(()) => Ok(disk),

@@ -8,3 +8,4 @@ pub mod Readings
 mod SomeReading
 mod Laying
 pub mod Settled
+pub mod Staging

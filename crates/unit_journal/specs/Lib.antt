@@ -7,4 +7,5 @@ pub mod Journal
 pub mod Errors
 pub mod Open
 pub mod Opened
+pub mod Staged
 pub mod Laws

@@ -11,6 +11,7 @@ mod laws;
 mod lay;
 mod open;
 mod record;
+mod staged;
 
 pub use errors::{AppendError, Full, LayError, OpenError};
 pub use journal::Journal;
@@ -20,3 +21,4 @@ pub use laid_record::LaidRecord;
 pub use laws::{a_region_has_one_reading, a_region_has_some_reading};
 pub use lay::laid_len;
 pub use record::Record;
+pub use staged::Staged;

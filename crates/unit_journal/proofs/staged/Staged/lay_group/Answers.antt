@@ -1,0 +1,26 @@
+use Rattle.std.proofs.Common.{◌+◌, ◌^◌, ◌<◌, ◌∙◌, length, refl, sym, arith}
+use Rattle.drda_disk.proofs.Parts.{Torn-wider}
+use Rattle.unit_journal.specs.Record.{AreShort, laid}
+use Rattle.unit_journal.proofs.Laying.{short_all}
+use Rattle.unit_journal.proofs.Staging.{laying, was_laid}
+use Rattle.unit_journal.proofs.staged.Staged.lay_group.Goals as goal
+
+pub returns-in_err-write_at-clause-any_moment : goal.returns-in_err-write_at-clause-any_moment
+returns-in_err-write_at-clause-any_moment g c es gs u =
+    laying g.D.Disk.is_modelled (g.D.Disk.life c.args.disk.now) c.args.self.now es gs u c.args.group.now _ c.bytes-bytes.ensures.bytes (omega arith) (g.D.Disk.life c.write_at.new.self) c.write_at.ensures.tears
+
+pub returns-clause-any_moment : goal.returns-clause-any_moment
+returns-clause-any_moment g c es gs u =
+    laying g.D.Disk.is_modelled (g.D.Disk.life c.args.disk.now) c.args.self.now es gs u c.args.group.now _ c.bytes-bytes.ensures.bytes (omega arith) (g.D.Disk.life c.write_at.new.self) c.write_at.ensures.tears
+
+pub returns-clause-ok : goal.returns-clause-ok
+returns-clause-ok g c es gs u =
+    let short : AreShort c.args.group.now = short_all c.args.group.now (omega arith) in
+    was_laid g.D.Disk.is_modelled (g.D.Disk.life c.args.disk.now) c.args.self.now es gs u c.args.group.now _ c.bytes-bytes.ensures.bytes (omega arith) (g.D.Disk.life c.write_at.new.self) _ c.write_at.ensures.tears (c.in_ok-write_at.ensures.written u.modelled_disk)
+    refl refl refl (omega arith) refl short
+
+pub returns-in_err-write_at-clause-others : goal.returns-in_err-write_at-clause-others
+returns-in_err-write_at-clause-others g c = Torn-wider (c.args.self.now.journal.next + c.args.self.now.gated + 1) (length c.bytes-bytes.result.now) c.args.self.now.journal.region.at c.args.self.now.journal.region.length _ _ (omega arith) (omega arith) c.write_at.ensures.tears.others
+
+pub returns-clause-others : goal.returns-clause-others
+returns-clause-others g c = Torn-wider (c.args.self.now.journal.next + c.args.self.now.gated + 1) (length c.bytes-bytes.result.now) c.args.self.now.journal.region.at c.args.self.now.journal.region.length _ _ (omega arith) (omega arith) c.write_at.ensures.tears.others
