@@ -49,7 +49,12 @@ pub record CollectsNothing {D : Type 0} (old : Told D) (pass : Pass) (wished : A
 abbrev pub count_at : Wish → Count
 count_at wish = record { conversation = wish.conversation; calls = wish.count }
 
--- it was asked for; the book counts the conversation as the wish does, and there is a number left for the call
+-- the book counts the conversation as the wish does, and there is a number left for the call
+pub record IsKnown (places : List (Option Count)) (wish : Wish) : Type 0 where
+  pub counted : slice_get places wish.place ≡ Some (Some (count_at wish))
+  pub numbered : wish.count + 2 < 2 ^ 64
+
+-- and it was asked for
 pub record IsMember (places : List (Option Count)) (wishes : List Wish) (wish : Wish) : Type 0 where
   pub asked : (at : ℕ) × (slice_get wishes at ≡ Some wish)
   pub known : slice_get places wish.place ≡ Some (Some (count_at wish))
@@ -85,6 +90,12 @@ all_counted (w ∷ ws) places = all_counted ws (slice_set places w.place (Some (
 abbrev pub all_left : Bool → List Wish → List (Option Left) → List (Option Left)
 all_left has_failed [] left = left
 all_left has_failed (w ∷ ws) left = all_left has_failed ws (slice_set left w.place (Some (record { conversation = w.conversation; number = w.count; wished = w.wished; has_failed = has_failed })))
+
+-- all of it, at once
+pub record ListsAll (has_failed : Bool) (members : List Wish) (listed listed' : List AnsweredCall) (counts counts' : List (Option Count)) (answers answers' : List (Option Left)) : Type 0 where
+  pub calls : listed' ≡ listed ++ all_listed has_failed members
+  pub places : counts' ≡ all_counted members counts
+  pub left : answers' ≡ all_left has_failed members answers
 
 module _ {D : Type 0} (life : D → Life) where
   -- the core makes them together, or the device fails at it

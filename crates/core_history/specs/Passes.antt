@@ -21,6 +21,12 @@ calls_in pass = pass.calls.listed
 abbrev pub count_of : Pass → Count
 count_of pass = record { conversation = pass.conversation; calls = pass.count }
 
+-- the pass counts a call more, at its place
+pub record IsOneMore (old new : Pass) : Type 0 where
+  pub count : new.count ≡ old.count + 1
+  pub conversation : new.conversation ≡ old.conversation
+  pub place : new.place ≡ old.place
+
 -- the book counts as many calls of the pass's conversation as the pass does
 abbrev pub Knows : {D : Type 0} → Told D → Pass → Type 0
 Knows book pass = slice_get book.places pass.place ≡ Some (Some (count_of pass))

@@ -5,10 +5,10 @@ ghost use Rattle.core_calls.specs.Answer.{answer_of};
 ghost use Rattle.core_calls.specs.Call.{call_of};
 ghost use Rattle.core_model.specs.Step.{Kept, Taken};
 ghost use Rattle.core_history.specs.Books.{AreCounted};
-ghost use Rattle.core_history.specs.Gathered.{AreApart, AreMembers, all_counted, all_left, all_listed, count_at};
+ghost use Rattle.core_history.specs.Gathered.{AreApart, IsKnown, ListsAll, count_at};
 ghost use Rattle.core_history.specs.LeftAnswers.{AreLeft, FailuresAreTrue};
 ghost use Rattle.core_history.specs.Wishes.{answer_wished, listed_wish};
-ghost use Rattle.core_history.specs.Passes.{calls_in, count_of};
+ghost use Rattle.core_history.specs.Passes.{IsOneMore, calls_in, count_of};
 
 use crate::calls::CallList;
 use crate::count::Count;
@@ -33,9 +33,7 @@ pub(crate) fn list(
     ensures calls { calls.new.listed ≡ calls.old.listed ++ record { conversation = pass.old.conversation; call = call_of call.now; mark = if is_taken then Taken else Kept; answer = answer_of answer.now } ∷ [] }
     ensures shown { calls_in pass.new ≡ calls_in pass.old ++ record { conversation = pass.old.conversation; call = call_of call.now; mark = if is_taken then Taken else Kept; answer = answer_of answer.now } ∷ [] }
     ensures places { places.new.items ≡ slice_set places.old.items pass.old.place (Some (count_of pass.new)) }
-    ensures count { pass.new.count ≡ pass.old.count + 1 }
-    ensures conversation { pass.new.conversation ≡ pass.old.conversation }
-    ensures place { pass.new.place ≡ pass.old.place }
+    ensures pass { IsOneMore pass.old pass.new }
     ensures counted { (next : _) → AreCounted calls.old.listed places.old.items next → AreCounted calls.new.listed places.new.items next }
     ensures left { (left : _) → AreLeft calls.old.listed left → AreLeft calls.new.listed left }
 {
@@ -57,13 +55,10 @@ pub(crate) fn list_all(
     members: &[Wish],
     has_failed: bool,
 )
-    requires known { (at : _) (member : _) → slice_get members.now at ≡ Some member → slice_get places.old.items member.place ≡ Some (Some (count_at member)) }
-    requires numbered { (at : _) (member : _) → slice_get members.now at ≡ Some member → member.count + 2 < 2 ^ 64 }
+    requires known { (at : _) (member : _) → slice_get members.now at ≡ Some member → IsKnown places.old.items member }
     requires apart { AreApart members.now }
     requires as_many { length left.old.items ≡ length places.old.items }
-    ensures calls { calls.new.listed ≡ calls.old.listed ++ all_listed has_failed members.now }
-    ensures places { places.new.items ≡ all_counted members.now places.old.items }
-    ensures left { left.new.items ≡ all_left has_failed members.now left.old.items }
+    ensures listed { ListsAll has_failed members.now calls.old.listed calls.new.listed places.old.items places.new.items left.old.items left.new.items }
     ensures counted { (next : _) → AreCounted calls.old.listed places.old.items next → AreCounted calls.new.listed places.new.items next }
     ensures are_left { (next : _) → AreCounted calls.old.listed places.old.items next → AreLeft calls.old.listed left.old.items → AreLeft calls.new.listed left.new.items }
     ensures failures { (is_failed : _) → (has_failed ≡ true → is_failed ≡ true) → FailuresAreTrue is_failed left.old.items → FailuresAreTrue is_failed left.new.items }

@@ -55,28 +55,33 @@ and_right false b is = absurd (false≢true is)
 pub small_size : (n : ℕ) → is_store_size n ≡ true → n < 2 ^ 64
 small_size n within = omega (arith, leb-true n 1073741824 (and_right (nat_le 2097152 n) (nat_le n 1073741824) within))
 
--- what is there before the mark is written
-pub record IsLaid (name image : List ℕ) : Type 0 where
+-- behind the place of the mark there is a head with this name
+pub record HasHead (name image : List ℕ) : Type 0 where
   pub sized : is_store_size (length image) ≡ true
-  pub small : length image < 2 ^ 64
-  pub short : length name ≤ 18
   pub name_len : is_name_len (length name) ≡ true
   pub printable : are_printable name ≡ true
-  pub head : part image 8 (13 + length name) ≡ head_bytes (length image) name
+  pub bytes : part image 8 (13 + length name) ≡ head_bytes (length image) name
+
+-- what is there before the mark is written
+pub record IsLaid (name image : List ℕ) : Type 0 where
+  pub head : HasHead name image
   pub header : part image 8192 25 ≡ 165 ∷ header_bytes first_header
   pub rest : part image 8217 8168 ≡ zeros 8168
   pub second : get_or image (8192 + half_len (length image)) 0 ≡ 0
   pub room : 8192 < half_len (length image)
 
 -- the mark does not lie among that
+pub head_torn : (name old new : List ℕ) → Torn 0 8 old new → HasHead name old → HasHead name new
+head_torn name old new cut h = record {
+  sized = ap (λ n. is_store_size n) cut.size ∙ h.sized;
+  name_len = h.name_len;
+  printable = h.printable;
+  bytes = part_after old new 8 8 (13 + length name) cut.after (omega arith) ∙ h.bytes ∙ ap (λ n. head_bytes n name) (sym cut.size);
+}
+
 pub laid_torn : (name old new : List ℕ) → Torn 0 8 old new → IsLaid name old → IsLaid name new
 laid_torn name old new cut l = record {
-  sized = ap (λ n. is_store_size n) cut.size ∙ l.sized;
-  small = omega (arith, cut.size, l.small);
-  short = l.short;
-  name_len = l.name_len;
-  printable = l.printable;
-  head = part_after old new 8 8 (13 + length name) cut.after (omega arith) ∙ l.head ∙ ap (λ n. head_bytes n name) (sym cut.size);
+  head = head_torn name old new cut l.head;
   header = part_after old new 8 8192 25 cut.after (omega arith) ∙ l.header;
   rest = part_after old new 8 8217 8168 cut.after (omega arith) ∙ l.rest;
   second = ap (λ n. get_or new (8192 + half_len n) 0) cut.size ∙ byte_outside 0 8 (8192 + half_len (length old)) old new cut (inr (omega arith)) ∙ l.second;
@@ -101,28 +106,32 @@ first_alone : (k : ℕ) → picked k (Open first_header) Closed ≡ Ok (First, f
 unfolding picked
 first_alone k = refl
 
-module _ (name image : List ℕ) (l : IsLaid name image) (marked : is_marked image ≡ true) where
+short_name : (n : ℕ) → is_name_len n ≡ true → n ≤ 18
+short_name n is = leb-true n 18 (and_right (nat_le 1 n) (nat_le n 18) is)
+
+module _ (name image : List ℕ) (h : HasHead name image) (marked : is_marked image ≡ true) where
   -- a part of the head
   in_head : (i n : ℕ) → i + n ≤ 13 + length name → part (take 39 image) (8 + i) n ≡ part (head_bytes (length image) name) i n
-  in_head i n low = part-part image 0 39 (8 + i) n (omega (arith, low, l.short)) ∙ ap (λ k. part image k n) (zero-add (8 + i)) ∙ sym (part-part image 8 (13 + length name) i n low) ∙ ap (λ (f : List ℕ). part f i n) l.head
+  in_head i n low = part-part image 0 39 (8 + i) n (omega (arith, low, short_name (length name) h.name_len)) ∙ ap (λ k. part image k n) (zero-add (8 + i)) ∙ sym (part-part image 8 (13 + length name) i n low) ∙ ap (λ (f : List ℕ). part f i n) h.bytes
 
   layout_is : (from_be_bytes w32 (part (take 39 image) 8 4) == 1) ≡ true
   layout_is = ap (λ (f : List ℕ). from_be_bytes w32 f == 1) (in_head 0 4 (omega arith))
 
   size_is : (from_be_bytes w64 (part (take 39 image) 12 8) == length image) ≡ true
   size_is =
-      let same : from_be_bytes w64 (part (take 39 image) 12 8) ≡ length image = ap (λ (f : List ℕ). from_be_bytes w64 f) (in_head 4 8 (omega arith)) ∙ from_be_bytes-to_be_bytes_8 (length image) l.small in
+      let same : from_be_bytes w64 (part (take 39 image) 12 8) ≡ length image = ap (λ (f : List ℕ). from_be_bytes w64 f) (in_head 4 8 (omega arith)) ∙ from_be_bytes-to_be_bytes_8 (length image) (small_size (length image) h.sized) in
       eq-eqb _ _ same
 
   len_is : get_or (take 39 image) 20 0 ≡ length name
-  len_is = get_or-take 39 image 20 0 (omega arith) ∙ sym (byte_in_part image 8 (13 + length name) 12 (omega arith)) ∙ ap (λ (f : List ℕ). get_or f 12 0) l.head
+  len_is = get_or-take 39 image 20 0 (omega arith) ∙ sym (byte_in_part image 8 (13 + length name) 12 (omega arith)) ∙ ap (λ (f : List ℕ). get_or f 12 0) h.bytes
 
   name_is : take (length name) (drop 21 (take 39 image)) ≡ name
   name_is = in_head 13 (length name) (omega arith) ∙ take_all (length name) name (omega arith)
 
   pub name_read : name_in (length image) (take 39 image) ≡ Ok name
-  name_read = passes (length image) (take 39 image) (mark_in_head image ∙ marked) layout_is size_is ∙ ap (λ n. name_behind n (drop 21 (take 39 image))) len_is ∙ named_behind (length name) (drop 21 (take 39 image)) name name_is l.name_len l.printable
+  name_read = passes (length image) (take 39 image) (mark_in_head image ∙ marked) layout_is size_is ∙ ap (λ n. name_behind n (drop 21 (take 39 image))) len_is ∙ named_behind (length name) (drop 21 (take 39 image)) name name_is h.name_len h.printable
 
+module _ (name image : List ℕ) (l : IsLaid name image) (marked : is_marked image ≡ true) where
   blank : list_all (λ b. b == 0) (part image 8217 8167) ≡ true
   blank = ap (λ (f : List ℕ). list_all (λ b. b == 0) f) (sym (take-take 8167 8168 (drop 8217 image) (omega arith)) ∙ ap (λ (f : List ℕ). take 8167 f) l.rest) ∙ zeros_blank 8167 8168
 
@@ -139,7 +148,7 @@ module _ (name image : List ℕ) (l : IsLaid name image) (marked : is_marked ima
 
   pub is_fresh : IsFresh name image
   is_fresh = record {
-    active = sized image l.sized ∙ ap (λ (f : Result (List ℕ) Refusal). with_name f (picked (half_len (length image)) (half_in (half_len (length image)) (part image 8192 8192)) (half_in (half_len (length image)) (part image (8192 + half_len (length image)) 8192)))) name_read
+    active = sized image l.head.sized ∙ ap (λ (f : Result (List ℕ) Refusal). with_name f (picked (half_len (length image)) (half_in (half_len (length image)) (part image 8192 8192)) (half_in (half_len (length image)) (part image (8192 + half_len (length image)) 8192)))) (name_read name image l.head marked)
         ∙ ap (λ a. with_half name (picked (half_len (length image)) a (half_in (half_len (length image)) (part image (8192 + half_len (length image)) 8192)))) first_is
         ∙ ap (λ b. with_half name (picked (half_len (length image)) (Open first_header) b)) second_is
         ∙ ap (λ p. with_half name p) (first_alone (half_len (length image)));
@@ -193,14 +202,14 @@ module _ (name file new : List ℕ) (at : ℕ) (front second : List ℕ) (front_
 
   pub is_laid : IsLaid name new
   is_laid = record {
-    sized = ap (λ n. is_store_size n) size ∙ within;
-    small = omega (arith, size, small_size (length file) within);
-    short = short;
-    name_len = and_left (is_name_len (length name)) (are_printable name) named;
-    printable = and_right (is_name_len (length name)) (are_printable name) named;
-    head = in_front 0 (13 + length name) (omega (arith, short))
-        ∙ ap (λ (f : List ℕ). take (13 + length name) f) (front_is ∙ append_assoc (head_bytes (length file) name) (zeros (8184 - length (head_bytes (length file) name))) ((165 ∷ header_bytes first_header) ++ zeros 8168))
-        ∙ take_at (head_bytes (length file) name) _ (13 + length name) (omega arith) ∙ ap (λ n. head_bytes n name) (sym size);
+    head = record {
+      sized = ap (λ n. is_store_size n) size ∙ within;
+      name_len = and_left (is_name_len (length name)) (are_printable name) named;
+      printable = and_right (is_name_len (length name)) (are_printable name) named;
+      bytes = in_front 0 (13 + length name) (omega (arith, short))
+          ∙ ap (λ (f : List ℕ). take (13 + length name) f) (front_is ∙ append_assoc (head_bytes (length file) name) (zeros (8184 - length (head_bytes (length file) name))) ((165 ∷ header_bytes first_header) ++ zeros 8168))
+          ∙ take_at (head_bytes (length file) name) _ (13 + length name) (omega arith) ∙ ap (λ n. head_bytes n name) (sym size);
+    };
     header = in_front 8184 25 (omega arith) ∙ ap (λ (f : List ℕ). take 25 f) behind_page ∙ take_at (165 ∷ header_bytes first_header) (zeros 8168) 25 refl;
     rest = in_front 8209 8168 (omega arith) ∙ ap (λ (f : List ℕ). take 8168 f) (sym (drop-drop 25 8184 front) ∙ ap (λ (f : List ℕ). drop 25 f) behind_page ∙ drop_at (165 ∷ header_bytes first_header) (zeros 8168) 25 refl) ∙ take_all 8168 (zeros 8168) (omega (arith, length-zeros 8168));
     second = ap (λ n. get_or new (8192 + half_len n) 0) size ∙ ap (λ i. get_or new i 0) (sym (is_at) ∙ sym (add-zero at)) ∙ sym (byte_in_part new at (length second) 0 (omega (arith, second_len)))

@@ -53,7 +53,7 @@ off (Ok s) = is_first (other_than s.half)
 off (Err e) = false
 
 -- the first half alone, where it counted
-alone_first : (name : Result (List ℕ) Refusal) (h : ℕ) (a b : HalfState) (s : Store) → with_name name (picked h a b) ≡ Ok s → s.half ≡ First → with_name name (picked h a Closed) ≡ Ok s
+pub alone_first : (name : Result (List ℕ) Refusal) (h : ℕ) (a b : HalfState) (s : Store) → with_name name (picked h a b) ≡ Ok s → s.half ≡ First → with_name name (picked h a Closed) ≡ Ok s
 unfolding picked tag is_first
 alone_first (Err e) h a b s is half = is
 alone_first (Ok n) h Unsound b s is half = is
@@ -70,7 +70,7 @@ alone_first (Ok n) h (Open a) (Open b) s is half = by_tests (a.generation == b.g
     by_tests false false was = was
 
 -- and the second
-alone_second : (name : Result (List ℕ) Refusal) (h : ℕ) (a b : HalfState) (s : Store) → with_name name (picked h a b) ≡ Ok s → s.half ≡ Second → with_name name (picked h Closed b) ≡ Ok s
+pub alone_second : (name : Result (List ℕ) Refusal) (h : ℕ) (a b : HalfState) (s : Store) → with_name name (picked h a b) ≡ Ok s → s.half ≡ Second → with_name name (picked h Closed b) ≡ Ok s
 unfolding picked off is_first
 alone_second (Err e) h a b s is half = is
 alone_second (Ok n) h Unsound b s is half = absurd (false≢true (ap off is ∙ ap (λ k. is_first (other_than k)) half))
@@ -84,7 +84,7 @@ alone_second (Ok n) h (Open a) (Open b) s is half = by_tests (a.generation == b.
     by_tests false true was = was
     by_tests false false was = absurd (false≢true (ap off was ∙ ap (λ k. is_first (other_than k)) half))
 
-shut_state : (image : List ℕ) (h at : ℕ) → (get_or image at 0 == 165) ≡ false → state_at h image at ≡ Closed
+pub shut_state : (image : List ℕ) (h at : ℕ) → (get_or image at 0 == 165) ≡ false → state_at h image at ≡ Closed
 shut_state image h at shut = half_closed h (part image at 8192) (ap (λ b. b == 165) (byte_in_part image at 8192 0 (omega arith) ∙ ap (λ i. get_or image i 0) (add-zero at)) ∙ shut)
 
 has_store : Result Store Refusal → Bool

@@ -4,3 +4,4 @@ mod Written
 pub mod Formatted
 pub mod Kept
 mod Switched
+pub mod Larger

@@ -27,6 +27,11 @@ pub record IsBehindPages (h : ℕ) (a : Active) : Type 0 where
   pub begins : a.region.at ≡ offset_of h a.half + 8192 * (1 + a.pages)
   pub ends : end_of a.region ≡ offset_of h a.half + h
 
+-- it is told as this store, and its journal's region with it
+pub record IsToldAs (store : Store) (h : ℕ) (a : Active) : Type 0 where
+  pub is : store_of a ≡ store
+  pub behind : IsBehindPages h a
+
 -- these bytes are seen as that, in any refusal but those of memory and of the device
 abbrev pub Refuses : {T : Type 0} → Result T Refusal → OpenError → Type 0
 Refuses found NotAStore = found ≡ Err not_a_store

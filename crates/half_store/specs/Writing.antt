@@ -1,5 +1,5 @@
 -- Writing the half that is not active.
-use Rattle.std.specs.Prelude.{◌≡◌, ◌≢◌, ◌⊎◌, ℕ, ◌+◌, ◌-◌, ◌*◌, ◌^◌, ◌<◌, ◌≤◌, Bool, IsTrue, List, length, slice_index, Result, Ok, Err}
+use Rattle.std.specs.Prelude.{◌≡◌, ◌≢◌, ◌⊎◌, ℕ, ◌+◌, ◌-◌, ◌*◌, ◌^◌, ◌<◌, ◌≤◌, Bool, IsTrue, List, length, slice_index, OnErr, OnOk, Result, Ok, Err}
 use Rattle.drda_disk.specs.Disk.{Life, Torn, Within}
 use Rattle.half_store.specs.Layout.{half_len, offset_of, other_than}
 use Rattle.half_store.specs.Active.{Store, active_of}
@@ -36,6 +36,11 @@ next_of w = from_of w + 8192 * (1 + w.pages)
 pub record IsKept (base : List ℕ) (store : Store) (at n : ℕ) (image : List ℕ) : Type 0 where
   pub active : active_of image ≡ Ok store
   pub others : Torn at n base image
+
+-- An image without pages is written, in a half that lies on a disk of this size.
+pub record IsEmpty (size : ℕ) (w : ImageWriter) : Type 0 where
+  pub none : pages_of w ≡ 0
+  pub inside : from_of w + half_bytes_of w ≤ size
 
 -- Each image is the base but for the half that is written, behind its closed gate; the base is a store, whose
 -- active half is the other one.
@@ -80,6 +85,19 @@ abbrev pub OnFull : {T : Type 0} → Result T PageError → Type 0 → Type 0
 OnFull (Ok x) P = Unit {0}
 OnFull (Err page.DeviceFailed) P = Unit {0}
 OnFull (Err (page.Full full)) P = P
+
+-- The same half is written, of the same generation; it has a page more, or none where the opposite is told.
+pub record GoesOn {T : Type 0} (result : Result T PageError) (w after : ImageWriter) : Type 0 where
+  pub half : half_of after ≡ half_of w
+  pub half_bytes : half_bytes_of after ≡ half_bytes_of w
+  pub generation : generation_of after ≡ generation_of w
+  pub more : OnOk result (pages_of after ≡ pages_of w + 1)
+  pub still : OnErr result (after ≡ w)
+
+-- That there is no room for a page more is told exactly where there is none, and before anything is written.
+pub record TellsPage {T : Type 0} (result : Result T PageError) (w : ImageWriter) (Unwritten : Type 0) : Type 0 where
+  pub full : SaysFull result (8192 * (2 + pages_of w) + 1) (half_bytes_of w)
+  pub unwritten : OnFull result Unwritten
 
 abbrev pub CountsPage : {T : Type 0} → Result T PageError → ℕ → ℕ → Type 0
 CountsPage (Ok x) old new = new ≡ old

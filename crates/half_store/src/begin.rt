@@ -4,7 +4,7 @@ ghost use Rattle.drda_disk.specs.Disk.{Only, Torn, LeavesOnly, CountsFault};
 ghost use Rattle.half_store.specs.Layout.{is_store_size, half_len, offset_of, other_than};
 ghost use Rattle.half_store.specs.Active.{active_of};
 ghost use Rattle.half_store.specs.Opened.{store_of};
-ghost use Rattle.half_store.specs.Writing.{IsKept, IsWriting, half_of, half_bytes_of, pages_of, from_of, IsClosing, OnRefusedToBegin, SaysLast, CountsBegin};
+ghost use Rattle.half_store.specs.Writing.{IsEmpty, IsKept, IsWriting, half_of, half_bytes_of, IsClosing, OnRefusedToBegin, SaysLast, CountsBegin};
 
 use crate::header::{CLOSED, OPEN};
 use crate::layout::half_bytes;
@@ -51,9 +51,8 @@ pub fn begin_image<D: Disk>(disk: &mut D, active: &Active) -> Result<ImageWriter
         (IsKept (D.life disk.old).seen (store_of active.now) (offset_of (half_len (length (D.life disk.old).seen)) (other_than active.now.half)) 1) }
     ensures begun { IfOk result (λ w. IsTrue D.is_modelled → Only (D.life disk.old) → active_of (D.life disk.old).seen ≡ Ok (store_of active.now) →
         IsWriting D.is_modelled (D.life disk.new) (D.life disk.new).seen (store_of active.now) w) }
-    ensures pages { IfOk result (λ w. pages_of w ≡ 0) }
     ensures half { IfOk result (λ w. (half_of w ≡ other_than active.now.half) × (half_bytes_of w ≡ half_len (length (D.life disk.old).seen))) }
-    ensures inside { IfOk result (λ w. from_of w + half_bytes_of w ≤ length (D.life disk.new).seen) }
+    ensures empty { IfOk result (IsEmpty (length (D.life disk.new).seen)) }
     ensures others { Torn (offset_of (half_len (length (D.life disk.old).seen)) (other_than active.now.half)) 1 (D.life disk.old).seen (D.life disk.new).seen }
     ensures last { SaysLast result active.now.generation }
     ensures refused { OnRefusedToBegin result (disk.new ≡ disk.old) }

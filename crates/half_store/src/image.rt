@@ -1,5 +1,5 @@
 //! Writing an image into the half that is not active.
-ghost use Rattle.std.specs.Prelude.{◌≡◌, ◌+◌, ◌-◌, ◌*◌, ◌^◌, ◌<◌, ◌≤◌, IsTrue, List, ℕ, length, OnOk, OnErr};
+ghost use Rattle.std.specs.Prelude.{◌≡◌, ◌+◌, ◌-◌, ◌*◌, ◌^◌, ◌<◌, ◌≤◌, IsTrue, List, ℕ, length, OnOk};
 ghost use Rattle.drda_words.specs.Place.{part};
 ghost use Rattle.drda_disk.specs.Disk.{Torn, LeavesOnly};
 
@@ -23,7 +23,7 @@ pub struct ImageWriter {
 impl ImageWriter {
     ghost use Rattle.drda_disk.specs.Region.{end_of};
     ghost use Rattle.half_store.specs.Active.{Store};
-    ghost use Rattle.half_store.specs.Writing.{IsKept, IsWriting, half_of, half_bytes_of, generation_of, pages_of, from_of, next_of, SaysFull, OnFull, CountsPage};
+    ghost use Rattle.half_store.specs.Writing.{GoesOn, IsKept, IsWriting, TellsPage, half_bytes_of, pages_of, from_of, next_of, CountsPage};
 
     /// Writes a page of 8,192 bytes behind the others. `Full` comes exactly where the half has no
     /// room for it and for a gate behind it; `need` is what the half would take then and `room` what
@@ -37,11 +37,8 @@ impl ImageWriter {
         ensures writing { (base : List ℕ) (store : Store) → IsWriting D.is_modelled (D.life disk.old) base store self.old → IsWriting D.is_modelled (D.life disk.new) base store self.new }
         ensures written { OnOk result (IsTrue D.is_modelled → part (D.life disk.new).seen (next_of self.old) 8192 ≡ bytes.now) }
         ensures others { Torn (next_of self.old) 8192 (D.life disk.old).seen (D.life disk.new).seen }
-        ensures pages { OnOk result (pages_of self.new ≡ pages_of self.old + 1) }
-        ensures same { (half_of self.new ≡ half_of self.old) × (half_bytes_of self.new ≡ half_bytes_of self.old) × (generation_of self.new ≡ generation_of self.old) }
-        ensures full { SaysFull result (8192 * (2 + pages_of self.old) + 1) (half_bytes_of self.old) }
-        ensures refused { OnFull result (disk.new ≡ disk.old) }
-        ensures err { OnErr result (self.new ≡ self.old) }
+        ensures goes_on { GoesOn result self.old self.new }
+        ensures room { TellsPage result self.old (disk.new ≡ disk.old) }
         ensures cause { CountsPage result (D.life disk.old).faults (D.life disk.new).faults }
     {
         let need = PAGE_BYTES * (2 + self.pages as usize) + 1;

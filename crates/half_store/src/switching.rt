@@ -2,7 +2,7 @@
 ghost use Rattle.std.specs.Prelude.{◌≡◌, ◌+◌, ◌-◌, ◌^◌, ◌<◌, ◌≤◌, ℕ, List, [], ◌∷◌, IsTrue, length, OnOk, IfOk};
 ghost use Rattle.drda_disk.specs.Disk.{Only, Torn, LeavesOnly, Within, overlaid, CountsFault};
 ghost use Rattle.half_store.specs.Active.{active_of};
-ghost use Rattle.half_store.specs.Opened.{store_of, IsBehindPages};
+ghost use Rattle.half_store.specs.Opened.{store_of, IsToldAs};
 ghost use Rattle.half_store.specs.Writing.{IsWriting, half_bytes_of, pages_of, from_of};
 ghost use Rattle.half_store.specs.Switching.{IsBehindGate, IsOldOrNew, switched, OnRefusedToSwitch, CountsSwitch};
 
@@ -53,8 +53,7 @@ impl ImageWriter {
         ensures active { OnOk result ((base : List ℕ) → IsWriting D.is_modelled (D.life disk.old) base (store_of active.now) self →
             active_of (D.life disk.new).seen ≡ Ok (switched (store_of active.now) self first_catalogue catalogue_pages)) }
         ensures durable { OnOk result (Only (D.life disk.new)) }
-        ensures store { IfOk result (λ a. store_of a ≡ switched (store_of active.now) self first_catalogue catalogue_pages) }
-        ensures region { IfOk result (IsBehindPages (half_bytes_of self)) }
+        ensures told { IfOk result (IsToldAs (switched (store_of active.now) self first_catalogue catalogue_pages) (half_bytes_of self)) }
         ensures others { Torn (from_of self) 8192 (D.life disk.old).seen (D.life disk.new).seen }
         ensures refused { OnRefusedToSwitch result (disk.new ≡ disk.old) }
         ensures cause { CountsSwitch result (D.life disk.old).faults (D.life disk.new).faults }

@@ -164,6 +164,11 @@ LiesBelow end checked = checked.pages.pages.at + 8192 * length checked.pages.pag
 abbrev pub LiesBehind : ℕ → CheckedTable → Type 0
 LiesBehind begin checked = begin ≤ checked.pages.pages.at
 
+-- the pages of each table lie between these offsets
+pub record LieWithin (begin end : ℕ) (checked : List CheckedTable) : Type 0 where
+  pub behind : AllByRecursion (LiesBehind begin) checked
+  pub below : AllByRecursion (LiesBelow end) checked
+
 -- the rows of a table that were noted, and those that its pages have
 abbrev pub noted_in : CheckedTable → List (List ℕ)
 noted_in checked = checked.pages.rows.listed.value

@@ -7,7 +7,7 @@ ghost use Rattle.checkpoint_writer.specs.Catalogue.{entry_of};
 ghost use Rattle.store_check.specs.Errors.{CountsCheck};
 ghost use Rattle.store_check.specs.Whole.{AreRows, ChecksTable, IsWhole, places_in};
 ghost use Rattle.store_check.specs.Listed.{are_listed};
-ghost use Rattle.store_check.specs.Half.{ChecksHalf, LiesBehind, LiesBelow, NotesTable, catalogue_end, entry_in, page_at, pages_of};
+ghost use Rattle.store_check.specs.Half.{ChecksHalf, LieWithin, NotesTable, catalogue_end, entry_in, page_at, pages_of};
 ghost use Rattle.store_check.specs.Halving.{ChecksMeaning, ChecksRows, ListsHalf};
 ghost use Rattle.store_check.specs.declared.errors.CheckError.TheVariants.{NoMemory};
 
@@ -117,8 +117,7 @@ fn check_rows<K: KeysBySchema, D: Disk>(
     requires listed { are_listed first (map entry_of tables.items) ≡ true }
     requires small { at + 8192 * first ≤ 2 ^ 40 }
     requires inside { at + 8192 * first ≤ length (D.life pager.old).seen }
-    ensures inside { IfOk result (λ checked. AllByRecursion (LiesBelow (page_at at first)) checked.items) }
-    ensures behind { IfOk result (λ checked. AllByRecursion (LiesBehind at) checked.items) }
+    ensures within { IfOk result (λ checked. LieWithin at (page_at at first) checked.items) }
     ensures good { IfOk result (λ checked. AllByRecursion (NotesTable (K.key_of keys.now)) checked.items) }
     ensures same { IfOk result (λ checked. map entry_in checked.items ≡ map entry_of tables.items) }
     ensures told { IsTrue D.is_modelled → ChecksRows (K.key_of keys.now) (D.life pager.old).seen at first (map entry_of tables.items) result }
@@ -152,8 +151,7 @@ fn check_meaning<K: KeysBySchema, D: Disk>(
     requires pages { 8192 * active.now.pages ≤ active.now.region.at }
     requires small { active.now.region.at ≤ 2 ^ 40 }
     requires inside { active.now.region.at ≤ length (D.life pager.old).seen }
-    ensures inside { IfOk result (λ checked. AllByRecursion (LiesBelow active.now.region.at) checked.items) }
-    ensures behind { IfOk result (λ checked. AllByRecursion (LiesBehind (pages_of active.now).at) checked.items) }
+    ensures within { IfOk result (λ checked. LieWithin (pages_of active.now).at active.now.region.at checked.items) }
     ensures good { IfOk result (λ checked. AllByRecursion (NotesTable (K.key_of keys.now)) checked.items) }
     ensures listed { IfOk result (λ checked. are_listed active.now.first_catalogue (map entry_in checked.items) ≡ true) }
     ensures told { IsTrue D.is_modelled → ChecksMeaning (K.key_of keys.now) (D.life pager.old).seen (pages_of active.now) result }
@@ -186,8 +184,7 @@ pub fn check_half<K: KeysBySchema, D: Disk>(
     requires pages { 8192 * active.now.pages ≤ active.now.region.at }
     requires small { active.now.region.at ≤ 2 ^ 40 }
     requires inside { active.now.region.at ≤ length (D.life pager.old).seen }
-    ensures inside { IfOk result (λ checked. AllByRecursion (LiesBelow active.now.region.at) checked.items) }
-    ensures behind { IfOk result (λ checked. AllByRecursion (LiesBehind (pages_of active.now).at) checked.items) }
+    ensures within { IfOk result (λ checked. LieWithin (pages_of active.now).at active.now.region.at checked.items) }
     ensures good { IfOk result (λ checked. AllByRecursion (NotesTable (K.key_of keys.now)) checked.items) }
     ensures listed { IfOk result (λ checked. are_listed active.now.first_catalogue (map entry_in checked.items) ≡ true) }
     ensures told { IsTrue D.is_modelled → ChecksHalf (K.key_of keys.now) (D.life pager.old).seen (pages_of active.now) result }

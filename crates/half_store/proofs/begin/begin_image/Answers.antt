@@ -1,4 +1,4 @@
-use Rattle.std.proofs.Common.{◌≡◌, ◌≢◌, ◌+◌, ◌<◌, ◌≤◌, length, get_or, sym, ◌∙◌, ap, subst, arith}
+use Rattle.std.proofs.Common.{◌≡◌, ◌≢◌, ◌+◌, ◌<◌, ◌≤◌, length, get_or, refl, sym, ◌∙◌, ap, subst, arith}
 use Rattle.drda_disk.specs.Disk.{Torn}
 use Rattle.drda_disk.proofs.Moments.{weaker}
 use Rattle.half_store.specs.Layout.{half_len, offset_of, other_than}
@@ -47,7 +47,7 @@ returns-clause-begun g c honest only active =
       generation = c.following-generation.ensures;
     }
 
-pub returns-clause-inside : goal.returns-clause-inside
-returns-clause-inside g c =
+pub returns-clause-empty : goal.returns-clause-empty
+returns-clause-empty g c =
     let low = half_inside c.size.result c.half_bytes-half_bytes.result c.other-half.result c.half_bytes-half_bytes.ensures.inside in
-    omega (arith, low, c.size.ensures, c.close_gate.ensures.others.size)
+    record { none = refl; inside = omega (arith, low, c.size.ensures, c.close_gate.ensures.others.size) }

@@ -18,7 +18,7 @@ returns-clause-told g c honest =
     all_opened file half cs told.0 c.add_tables.result told.1 same (all_stand c.whole_is_stored.ensures file half.at cs told.0 told.2 told.3 told.1.whole) c.add_tables.ensures.tables c.add_tables.ensures.stand (c.add_tables.ensures.damaged good)
 
 pub returns-clause-inside : goal.returns-clause-inside
-returns-clause-inside g c = all_inside c.args.active.now.region.at c.in_ok-tables.tables.items c.add_tables.result c.in_ok-tables.ensures.inside c.add_tables.ensures.inside
+returns-clause-inside g c = all_inside c.args.active.now.region.at c.in_ok-tables.tables.items c.add_tables.result c.in_ok-tables.ensures.within.below c.add_tables.ensures.inside
 
 pub returns-clause-apart : goal.returns-clause-apart
-returns-clause-apart g c = all_apart c.args.active.now c.in_ok-tables.tables.items c.add_tables.result c.requires.pages c.in_ok-tables.ensures.inside c.in_ok-tables.ensures.behind c.add_tables.ensures.apart
+returns-clause-apart g c = all_apart c.args.active.now c.in_ok-tables.tables.items c.add_tables.result c.requires.pages c.in_ok-tables.ensures.within.below c.in_ok-tables.ensures.within.behind c.add_tables.ensures.apart
