@@ -20,10 +20,10 @@ use Rattle.unit_journal.specs.Stands.{StandsFrom}
 use Rattle.unit_records.specs.MadeRecords.{MadeRecords}
 use Rattle.unit_records.specs.Records.{entry_of}
 use Rattle.store_check.specs.Checkpoint.{CheckpointsAreStores, half_pages}
-use Rattle.checkpoints.specs.Holds as image
-use Rattle.checkpoints.specs.Holds.{half_end, journal_at}
-use Rattle.checkpoints.specs.Moment.{IsNew, IsOld, Moment, MomentsHold}
-use Rattle.checkpoints.specs.Room.{need_of}
+use Rattle.store_check.specs.Holds as image
+use Rattle.store_check.specs.Holds.{half_end, journal_at}
+use Rattle.store_check.specs.Moment.{IsNew, IsOld, Moment, MomentsHold}
+use Rattle.store_check.specs.Room.{need_of}
 use Rattle.recovery.specs.Durable.{Durable, at_checkpoint}
 use Rattle.recovery.specs.Journal.{AreGood, Leads}
 use Rattle.recovery.specs.Known.{AreKnown}

@@ -5,7 +5,7 @@ use Rattle.half_store.specs.Layout.{half_len}
 use Rattle.half_store.specs.declared.header.Layout.TheVariants.{Two}
 use Rattle.row_pages.specs.Laying.{counted}
 use Rattle.unit_records.specs.Records.{entry_of}
-use Rattle.checkpoints.specs.Room.{need_of}
+use Rattle.store_check.specs.Room.{need_of}
 use Rattle.recovery.specs.Laws.{held_for}
 use Rattle.recovery.specs.Laying.{records_of}
 use Rattle.recovery.specs.Journaled.{FaultsAfter, IsUnchanged, Shown}

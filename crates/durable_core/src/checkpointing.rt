@@ -14,7 +14,6 @@ ghost use Rattle.durable_core.specs.Checkpointing.{Checkpoints, told_of};
 
 use crate::durable::DurableCore;
 use crate::holding::held_at;
-use checkpoints::moments_hold;
 use drda_disk::Disk;
 use half_store::Layout;
 use journal_recorder::{CheckpointError, heuristic_record, prepare_record};
@@ -23,7 +22,7 @@ use recovery::find_places;
 use recovery::images::calls_make_records;
 use recovery::laws::{doubts_are_laid, records_lead_to_sound_states};
 use std::alloc::AllocError;
-use store_check::checkpoints_are_known;
+use store_check::{checkpoints_are_known, moments_hold};
 use unit_journal::Record;
 use unit_records::Recorder;
 use xa_calls::Xid;

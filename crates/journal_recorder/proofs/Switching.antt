@@ -12,9 +12,9 @@ use Rattle.unit_journal.specs.Journal.{region_of}
 use Rattle.unit_journal.specs.Record.{Entry}
 use Rattle.unit_journal.specs.declared.journal.Journal.{Journal}
 use Rattle.checkpoint_writer.specs.declared.ending.Switched.{Switched}
-use Rattle.checkpoints.specs.Holds.{half_end, journal_at}
-use Rattle.checkpoints.specs.Room.{need_of}
-use Rattle.checkpoints.specs.Moment.{GoesOn, IsAnew, Moment, Rests}
+use Rattle.store_check.specs.Holds.{half_end, journal_at}
+use Rattle.store_check.specs.Room.{need_of}
+use Rattle.store_check.specs.Moment.{GoesOn, IsAnew, Moment, Rests}
 use Rattle.paged_tables.specs.TablesByName.{Tables as Pages}
 use Rattle.paged_checkpoints.specs.Apart.{StandApart}
 use Rattle.journal_recorder.specs.Checkpointing.{Checkpoints, IsSwitched, KeepsOld, LeavesOldOrNew, OfStore, RestsWith, StaysOn}

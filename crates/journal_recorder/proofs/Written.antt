@@ -10,7 +10,7 @@ use Rattle.tables.specs.Tables.{Store as Rows}
 use Rattle.unit_journal.specs.Journal.{region_of}
 use Rattle.unit_journal.specs.Record.{Entry}
 use Rattle.checkpoint_writer.specs.declared.ending.Switched.{Switched}
-use Rattle.checkpoints.specs.Moment.{GoesOn, IsAnew, Rests}
+use Rattle.store_check.specs.Moment.{GoesOn, IsAnew, Rests}
 use Rattle.paged_tables.specs.TablesByName.{AreOnPages, LieInside, LieOutside, Tables}
 use Rattle.paged_checkpoints.specs.Apart.{StandApart}
 use Rattle.journal_recorder.specs.Checkpointing.{HasStore, RestsWith}

@@ -12,9 +12,9 @@ use Rattle.unit_journal.specs.declared.journal.Journal.{Journal}
 use Rattle.unit_journal.specs.Record.{Entry}
 use Rattle.unit_records.specs.Records.{UnitRecord}
 use Rattle.unit_records.specs.Room.{held, taken}
-use Rattle.checkpoints.specs.Holds.{half_end, journal_at}
-use Rattle.checkpoints.specs.Moment.{GoesOn, IsNew, Moment, Rests}
-use Rattle.checkpoints.specs.Room.{need_of}
+use Rattle.store_check.specs.Holds.{half_end, journal_at}
+use Rattle.store_check.specs.Moment.{GoesOn, IsNew, Moment, Rests}
+use Rattle.store_check.specs.Room.{need_of}
 use Rattle.journal_recorder.specs.Recording.{disk_of, has_failed, journal_of, layout_of, made_of}
 use Rattle.journal_recorder.specs.declared.checkpointing.CheckpointError.{CheckpointError}
 use Rattle.journal_recorder.specs.declared.checkpointing.CheckpointError.TheVariants.{DeviceFailed, Full, NoMemory}

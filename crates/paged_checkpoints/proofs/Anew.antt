@@ -20,9 +20,9 @@ use Rattle.checkpoint_writer.proofs.MergedRows.{many_keys}
 use Rattle.store_check.specs.Checkpoint.{forms}
 use Rattle.store_check.specs.Half.{page_at}
 use Rattle.store_check.specs.Written.{IsWritten}
-use Rattle.checkpoints.specs.Laying.{IsGood, laid_at, rows_under}
-use Rattle.checkpoints.specs.Room.{entry_of_table, pages_of_table}
-use Rattle.checkpoints.proofs.Placing.{bare_under, good_rows}
+use Rattle.store_check.specs.Laying.{IsGood, laid_at, rows_under}
+use Rattle.store_check.specs.Room.{entry_of_table, pages_of_table}
+use Rattle.store_check.proofs.Placing.{bare_under, good_rows}
 use Rattle.paged_tables.specs.Lending.{IsLent}
 use Rattle.paged_tables.specs.Stored.{Stored, rows_in, table_in}
 use Rattle.paged_tables.specs.declared.lending.TableRef.{TableRef}

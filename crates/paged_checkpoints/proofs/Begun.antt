@@ -15,9 +15,9 @@ use Rattle.tables.specs.Tables.{Store}
 use Rattle.table_map.specs.Stored.{Places}
 use Rattle.checkpoint_writer.specs.declared.ending.Switched.{Switched}
 use Rattle.checkpoint_writer.specs.declared.errors.ImageError.{ImageError}
-use Rattle.checkpoints.specs.Moment.{GoesOn, IsAnew, IsOld, Moment, Rests}
-use Rattle.checkpoints.specs.Room.{TellsRoom, need_of}
-use Rattle.checkpoints.proofs.Ending.{anew_before, begun_leaves, old_before, some_half}
+use Rattle.store_check.specs.Moment.{GoesOn, IsAnew, IsOld, Moment, Rests}
+use Rattle.store_check.specs.Room.{TellsRoom, need_of}
+use Rattle.store_check.proofs.Ending.{anew_before, begun_leaves, old_before, some_half}
 use Rattle.paged_tables.specs.Stored.{IsOnPages}
 use Rattle.paged_tables.specs.TablesByName.{AreLaid, Tables, created_of, store_of}
 use Rattle.paged_checkpoints.specs.Apart.{AreReadable, StandApart, other_half}

@@ -18,8 +18,8 @@ use Rattle.store_check.specs.Listed.{is_before, names_rise}
 use Rattle.store_check.specs.declared.half.CheckedTable.{CheckedTable}
 use Rattle.store_check.specs.declared.errors.CheckError.{CheckError}
 use Rattle.store_check.specs.declared.errors.CheckError.TheVariants.{NoMemory, DeviceFailed, Damaged}
-use Rattle.checkpoints.specs.Reading.{DamagedOnly}
-use Rattle.checkpoints.proofs.ReadBack.{lie_below}
+use Rattle.store_check.specs.Reading.{DamagedOnly}
+use Rattle.store_check.proofs.ReadBack.{lie_below}
 use Rattle.paged_tables.specs.PagedTables.{store_in}
 use Rattle.paged_tables.specs.TablesByName.{AddsPages, AreOnPages, ComesLast, LieInside, LieOutside, Tables, store_of}
 use Rattle.paged_tables.specs.declared.store.PagedTables.{PagedTables}

@@ -11,8 +11,8 @@ use Rattle.tables.specs.Tables.{Store}
 use Rattle.checkpoint_writer.specs.Errors.{DamagedWhere}
 use Rattle.checkpoint_writer.specs.declared.errors.ImageError.{ImageError}
 use Rattle.checkpoint_writer.specs.declared.errors.ImageError.TheVariants.{NoMemory, DeviceFailed, Damaged, Full}
-use Rattle.checkpoints.specs.Moment.{GoesOn, IsOld, Moment, Rests}
-use Rattle.checkpoints.specs.Room.{OnFull, SaysRoom, TellsRoom}
+use Rattle.store_check.specs.Moment.{GoesOn, IsOld, Moment, Rests}
+use Rattle.store_check.specs.Room.{OnFull, SaysRoom, TellsRoom}
 use Rattle.paged_tables.specs.TablesByName.{Tables}
 use Rattle.paged_checkpoints.specs.Apart.{StandApart}
 use Rattle.paged_checkpoints.specs.Written.{TellsExactly, TellsWriting}

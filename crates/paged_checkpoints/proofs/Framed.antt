@@ -23,8 +23,8 @@ use Rattle.store_check.specs.Checkpoint.{forms}
 use Rattle.store_check.specs.Half.{page_at}
 use Rattle.store_check.specs.Half.{pages_of as pages_of_active}
 use Rattle.store_check.specs.Written.{IsWritten}
-use Rattle.checkpoints.specs.Laying.{laid_at, laid_from, rows_under}
-use Rattle.checkpoints.specs.Room.{pages_of_table}
+use Rattle.store_check.specs.Laying.{laid_at, laid_from, rows_under}
+use Rattle.store_check.specs.Room.{pages_of_table}
 use Rattle.paged_tables.specs.Stored.{IsOnPages, LiesInside, LiesOutside, Stored, laid_anew, shown, table_in}
 use Rattle.paged_tables.specs.TablesByName.{AreLaid, Tables, created_of, store_of}
 use Rattle.paged_checkpoints.specs.Apart.{LiesAmong, LiesFrom}

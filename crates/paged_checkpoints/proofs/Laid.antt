@@ -8,9 +8,9 @@ use Rattle.table_map.specs.Stored.{Places}
 use Rattle.half_store.specs.Writing.{from_of, next_of, pages_of}
 use Rattle.half_store.specs.declared.image.ImageWriter.{ImageWriter}
 use Rattle.checkpoint_writer.specs.Catalogue.{Entry, HaveNames}
-use Rattle.checkpoints.specs.Laying.{IsGood, laid_at}
-use Rattle.checkpoints.specs.Room.{pages_of_table}
-use Rattle.checkpoints.proofs.Moving.{IsSoFar, is_good, none_yet, one_more}
+use Rattle.store_check.specs.Laying.{IsGood, laid_at}
+use Rattle.store_check.specs.Room.{pages_of_table}
+use Rattle.store_check.proofs.Moving.{IsSoFar, is_good, none_yet, one_more}
 use Rattle.paged_tables.specs.Stored.{Stored}
 use Rattle.paged_tables.specs.TablesByName.{Tables}
 use Rattle.paged_checkpoints.specs.Apart.{LiesFrom}

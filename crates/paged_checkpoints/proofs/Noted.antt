@@ -12,7 +12,7 @@ use Rattle.store_check.specs.Checkpoint.{at_keys, forms, store_on, table_on}
 use Rattle.store_check.specs.Half.{AreTables, IsTable, TableRows, noted_in, placed, rows_in, told_of}
 use Rattle.store_check.specs.Whole.{AreRows, WholeIsStored}
 use Rattle.store_check.specs.declared.half.CheckedTable.{CheckedTable}
-use Rattle.checkpoints.proofs.ReadBack.{stored_there}
+use Rattle.store_check.proofs.ReadBack.{stored_there}
 use Rattle.paged_tables.specs.Laws.{RowsHaveForms}
 use Rattle.paged_tables.specs.Stored.{AreRowsOf}
 use Rattle.paged_tables.specs.Stored.{at_keys as at_their_keys}

@@ -12,9 +12,9 @@ use Rattle.table_map.specs.Stored.{Places, IsStored as StandAt}
 use Rattle.table_map.specs.Table.{rows_of_table, without_keys}
 use Rattle.table_map.specs.Table.{Table as Mapped}
 use Rattle.checkpoint_writer.specs.Stored.{HaveKeys}
-use Rattle.checkpoints.specs.Laying.{IsGood}
-use Rattle.checkpoints.specs.Room.{pages_of_table}
-use Rattle.checkpoints.proofs.Placing.{all_short, good_rows}
+use Rattle.store_check.specs.Laying.{IsGood}
+use Rattle.store_check.specs.Room.{pages_of_table}
+use Rattle.store_check.proofs.Placing.{all_short, good_rows}
 use Rattle.paged_tables.specs.Lending.{IsLent}
 use Rattle.paged_tables.specs.Stored.{IsOnPages, Stored, at_keys, rows_in, table_in}
 use Rattle.paged_tables.specs.declared.lending.TableRef.{TableRef}

@@ -9,8 +9,8 @@ use Rattle.store_check.specs.Checkpoint.{forms}
 use Rattle.store_check.specs.Written.{IsWritten}
 use Rattle.paged_tables.specs.Stored.{Stored, rows_in, table_in}
 use Rattle.paged_tables.specs.TablesByName.{Tables}
-use Rattle.checkpoints.specs.Laying.{laid_at, laid_from, rows_under}
-use Rattle.checkpoints.specs.Room.{entry_of_table, pages_of_table}
+use Rattle.store_check.specs.Laying.{laid_at, laid_from, rows_under}
+use Rattle.store_check.specs.Room.{entry_of_table, pages_of_table}
 
 -- a table that is created, with its name
 abbrev pub created_entry : List ℕ × Stored → List ℕ × Table

@@ -17,9 +17,9 @@ use Rattle.checkpoint_writer.specs.declared.errors.ImageError.{ImageError}
 use Rattle.store_check.specs.Checkpoint.{HasCheckpoint, forms}
 use Rattle.store_check.specs.Half.{pages_of as pages_of_active}
 use Rattle.store_check.specs.Written.{IsWritten}
-use Rattle.checkpoints.specs.Laying.{laid_from, pages_with}
-use Rattle.checkpoints.specs.Moment.{IsAnew}
-use Rattle.checkpoints.specs.Room.{OnFull, SaysRoom, TellsRoom, entries_from, pages_of_catalogue, pages_of_tables}
+use Rattle.store_check.specs.Laying.{laid_from, pages_with}
+use Rattle.store_check.specs.Moment.{IsAnew}
+use Rattle.store_check.specs.Room.{OnFull, SaysRoom, TellsRoom, entries_from, pages_of_catalogue, pages_of_tables}
 use Rattle.paged_tables.specs.PagedTables.{store_in}
 use Rattle.paged_tables.specs.Stored.{IsOnPages, LiesInside, LiesOutside}
 use Rattle.paged_tables.specs.TablesByName.{AreLaid, LieInside, Tables, created_of}

@@ -8,7 +8,7 @@ ghost use Rattle.store_check.specs.Checkpoint.{forms};
 ghost use Rattle.store_check.specs.Errors.{CountsCheck};
 ghost use Rattle.store_check.specs.Half.{LiesBelow, NotesTable, entry_in, pages_of};
 ghost use Rattle.store_check.specs.Listed.{names_rise};
-ghost use Rattle.checkpoints.specs.Reading.{DamagedOnly};
+ghost use Rattle.store_check.specs.Reading.{DamagedOnly};
 ghost use Rattle.paged_tables.specs.PagedTables.{store_in};
 ghost use Rattle.paged_tables.specs.TablesByName.{AddsPages, AreOnPages, ComesLast, LieInside, LieOutside};
 ghost use Rattle.paged_checkpoints.specs.Opening.{OpensCheckpoint, StandsIn, StandsOutside, name_in, noted_table, opened_of};

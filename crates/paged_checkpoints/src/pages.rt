@@ -3,7 +3,7 @@ ghost use Rattle.std.specs.Prelude.{◌+◌, ◌*◌, IfOk, length};
 ghost use Rattle.half_store.specs.Writing.{next_of};
 ghost use Rattle.checkpoint_writer.specs.Adding.{AddsPages, end_of_half};
 ghost use Rattle.checkpoint_writer.specs.Errors.{CountsImage};
-ghost use Rattle.checkpoints.specs.Room.{pages_of_catalogue, pages_of_tables};
+ghost use Rattle.store_check.specs.Room.{pages_of_catalogue, pages_of_tables};
 ghost use Rattle.paged_checkpoints.specs.Apart.{AreReadable};
 ghost use Rattle.paged_checkpoints.specs.Laying.{all_shown};
 ghost use Rattle.paged_checkpoints.specs.Written.{AreIn, HaveAll, IsBegun, TellsPages};

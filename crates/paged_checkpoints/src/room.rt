@@ -4,7 +4,7 @@ ghost use Rattle.drda_disk.specs.Disk.{Stays};
 ghost use Rattle.half_store.specs.Layout.{half_len, is_store_size};
 ghost use Rattle.unit_journal.specs.Record.{entries_of};
 ghost use Rattle.checkpoint_writer.specs.Errors.{CountsImage, DamagedWhere};
-ghost use Rattle.checkpoints.specs.Room.{SaysRoom, need_of};
+ghost use Rattle.store_check.specs.Room.{SaysRoom, need_of};
 ghost use Rattle.paged_tables.specs.PagedTables.{store_in};
 ghost use Rattle.paged_tables.specs.TablesByName.{AreOnPages, LieInside};
 

@@ -12,3 +12,9 @@ mod Framing
 mod KeyOrder
 mod Entries
 mod Checkpoints
+pub mod Placing
+pub mod LaidHalf
+pub mod Moving
+mod Holding
+pub mod Ending
+pub mod ReadBack

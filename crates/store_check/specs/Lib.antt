@@ -8,3 +8,8 @@ pub mod Half
 pub mod Halving
 pub mod Written
 pub mod Checkpoint
+pub mod Room
+pub mod Laying
+pub mod Holds
+pub mod Moment
+pub mod Reading

@@ -2,6 +2,7 @@
 ghost use Rattle.store_check.specs.Checkpoint.{CheckpointIsNotBad, CheckpointsAreFramed, CheckpointsAreStores, NoPagesHaveNoTables, OneCheckpoint};
 ghost use Rattle.store_check.specs.Half.{OneFirstBadOfHalf, OneWholeHalf, WholeHalfIsNotBad};
 ghost use Rattle.store_check.specs.Listed.{ListedIsNotBad};
+ghost use Rattle.store_check.specs.Moment.{MomentsHold};
 ghost use Rattle.store_check.specs.Written.{WrittenHalfIsWhole, WrittenIsListed, WrittenIsWhole};
 ghost use Rattle.store_check.specs.Whole.{OneFirstBad, OneWhole, WholeIsNotBad, WholeIsStored};
 
@@ -103,4 +104,12 @@ pub fn checkpoints_are_known()
     whole_half_is_not_bad();
     forms_keep_order();
     rows_have_their_forms();
+}
+
+/// At each moment of a checkpoint an image holds the tables and the records that were there before, in
+/// the half that was active; or those that are written, in the other one.
+pub fn moments_hold()
+    ensures { MomentsHold }
+{
+    checkpoints_are_known();
 }

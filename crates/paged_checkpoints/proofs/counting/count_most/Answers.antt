@@ -1,7 +1,7 @@
 -- What a table takes at most is counted, and its row of the catalogue as it will be laid.
 use Rattle.std.proofs.Common.{sym, arith}
 use Rattle.key_map.specs.RowForm.{row_form}
-use Rattle.checkpoints.specs.Room.{entry_of_table}
+use Rattle.store_check.specs.Room.{entry_of_table}
 use Rattle.paged_checkpoints.specs.Laying.{created_entry}
 use Rattle.paged_checkpoints.proofs.Standing.{count, stands}
 use Rattle.paged_checkpoints.proofs.counting.count_most.Goals as goal

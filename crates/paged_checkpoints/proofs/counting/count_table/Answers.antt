@@ -1,7 +1,7 @@
 -- A table's pages are counted as they will be laid, and so is its row of the catalogue.
 use Rattle.std.proofs.Common.{rules, sym, arith}
 use Rattle.table_map.proofs.Damaged.{handed_on}
-use Rattle.checkpoints.specs.Room.{entry_of_table}
+use Rattle.store_check.specs.Room.{entry_of_table}
 use Rattle.paged_checkpoints.specs.Laying.{created_entry}
 use Rattle.paged_checkpoints.proofs.Standing.{count, short, stands}
 use Rattle.paged_checkpoints.proofs.counting.count_table.Goals as goal

@@ -2,8 +2,8 @@
 use Rattle.std.proofs.Common.{◌≡◌, ℕ, ◌+◌, [], List, sym, ap, subst, ◌∙◌, arith}
 use Rattle.row_pages.specs.Laying.{counted, pages_with}
 use Rattle.checkpoint_writer.specs.Catalogue.{rows_of}
-use Rattle.checkpoints.specs.Room.{entries_from, pages_of_catalogue, pages_of_table, pages_of_tables}
-use Rattle.checkpoints.proofs.Moving.{good_all}
+use Rattle.store_check.specs.Room.{entries_from, pages_of_catalogue, pages_of_table, pages_of_tables}
+use Rattle.store_check.proofs.Moving.{good_all}
 use Rattle.paged_tables.specs.Stored.{Stored, table_in}
 use Rattle.paged_tables.specs.TablesByName.{AreOnPages, Tables}
 use Rattle.paged_checkpoints.specs.Laying.{all_shown}

@@ -2,8 +2,8 @@ use Rattle.std.proofs.Common.{◌≡◌, ◌≤◌, ℕ, List, ◌+◌, true, le
 use Rattle.std.specs.List.{list_all}
 use Rattle.row_pages.specs.Laying.{counted, pages_with}
 use Rattle.checkpoint_writer.specs.Catalogue.{rows_of}
-use Rattle.checkpoints.specs.Room.{entries_from, pages_of_catalogue, pages_of_tables}
-use Rattle.checkpoints.proofs.Moving.{is_good}
+use Rattle.store_check.specs.Room.{entries_from, pages_of_catalogue, pages_of_tables}
+use Rattle.store_check.proofs.Moving.{is_good}
 use Rattle.paged_tables.specs.TablesByName.{AreOnPages}
 use Rattle.paged_checkpoints.specs.Laying.{all_shown}
 use Rattle.paged_checkpoints.proofs.counting.most_bytes.Given as goal

@@ -3,8 +3,8 @@ use Rattle.std.proofs.Common.{◌≡◌, ◌+◌, refl, ap, arith}
 use Rattle.drda_disk.proofs.Moments.{Stays-refl}
 use Rattle.row_pages.specs.Laying.{counted}
 use Rattle.checkpoint_writer.specs.Catalogue.{rows_of}
-use Rattle.checkpoints.specs.Room.{entries_from, pages_of_tables}
-use Rattle.checkpoints.proofs.Moving.{good_all}
+use Rattle.store_check.specs.Room.{entries_from, pages_of_tables}
+use Rattle.store_check.proofs.Moving.{good_all}
 use Rattle.paged_checkpoints.specs.Laying.{all_shown}
 use Rattle.paged_checkpoints.proofs.counting.needed_bytes.Goals as goal
 

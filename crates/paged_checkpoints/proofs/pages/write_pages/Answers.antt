@@ -9,9 +9,9 @@ use Rattle.checkpoint_writer.specs.declared.entry.TablePlace.{TablePlace}
 use Rattle.checkpoint_writer.proofs.Adding.{and_more, same_from}
 use Rattle.store_check.specs.Checkpoint.{HasCheckpoint, forms}
 use Rattle.store_check.specs.Written.{IsWritten}
-use Rattle.checkpoints.specs.Laying.{laid_from, pages_with}
-use Rattle.checkpoints.proofs.Listing.{checkpoint}
-use Rattle.checkpoints.proofs.Moving.{all_stay}
+use Rattle.store_check.specs.Laying.{laid_from, pages_with}
+use Rattle.store_check.proofs.LaidHalf.{checkpoint}
+use Rattle.store_check.proofs.Moving.{all_stay}
 use Rattle.paged_tables.specs.Stored.{IsOnPages}
 use Rattle.paged_tables.specs.TablesByName.{AreLaid}
 use Rattle.paged_checkpoints.specs.Laying.{all_shown}

@@ -6,7 +6,7 @@ use Rattle.tables.specs.Tables.{Store}
 use Rattle.tables.specs.View.{is_store}
 use Rattle.unit_journal.specs.Record.{entries_of}
 use Rattle.checkpoint_writer.proofs.Told.{read_on}
-use Rattle.checkpoints.specs.Room.{need_of}
+use Rattle.store_check.specs.Room.{need_of}
 use Rattle.paged_checkpoints.proofs.Begun.{lent_shown}
 use Rattle.paged_checkpoints.proofs.room.check_room.Goals as goal
 

@@ -6,8 +6,8 @@ use Rattle.half_store.specs.Writing.{next_of, pages_of}
 use Rattle.checkpoint_writer.specs.Adding.{end_of_half}
 use Rattle.checkpoint_writer.proofs.Adding.{same_from}
 use Rattle.checkpoint_writer.proofs.Told.{handed_on}
-use Rattle.checkpoints.specs.Room.{pages_of_table}
-use Rattle.checkpoints.proofs.Moving.{told_wider}
+use Rattle.store_check.specs.Room.{pages_of_table}
+use Rattle.store_check.proofs.Moving.{told_wider}
 use Rattle.paged_tables.specs.Stored.{table_in}
 use Rattle.key_map.specs.RowForm.{row_form}
 use Rattle.paged_checkpoints.proofs.Anew.{apart, count, have, is_under, lays, pages_then, short, stands}

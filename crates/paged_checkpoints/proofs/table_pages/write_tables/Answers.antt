@@ -12,8 +12,8 @@ use Rattle.checkpoint_writer.specs.Catalogue.{Entry, HaveNames, place_of}
 use Rattle.checkpoint_writer.specs.declared.entry.TablePlace.{TablePlace}
 use Rattle.checkpoint_writer.proofs.Adding.{and_more, no_page, same_from}
 use Rattle.checkpoint_writer.proofs.Told.{handed_on}
-use Rattle.checkpoints.specs.Room.{pages_of_table, pages_of_tables}
-use Rattle.checkpoints.proofs.Moving.{good_all, room_left, told_wider}
+use Rattle.store_check.specs.Room.{pages_of_table, pages_of_tables}
+use Rattle.store_check.proofs.Moving.{good_all, room_left, told_wider}
 use Rattle.paged_tables.specs.Stored.{Stored, table_in}
 use Rattle.paged_tables.specs.TablesByName.{Tables}
 use Rattle.paged_checkpoints.specs.Apart.{LiesFrom}

@@ -3,7 +3,7 @@ use Rattle.std.specs.List.{AllByRecursion, list_all}
 use Rattle.half_store.specs.Writing.{next_of}
 use Rattle.checkpoint_writer.specs.Adding.{AddsPages}
 use Rattle.checkpoint_writer.specs.Catalogue.{HaveNames, place_of}
-use Rattle.checkpoints.proofs.Moving.{is_good}
+use Rattle.store_check.proofs.Moving.{is_good}
 use Rattle.paged_tables.specs.TablesByName.{LieInside}
 use Rattle.paged_checkpoints.specs.Apart.{AreReadable, LiesFrom}
 use Rattle.paged_checkpoints.specs.Laying.{IsUnder, all_shown}

@@ -5,8 +5,8 @@ use Rattle.drda_disk.specs.Disk.{Stays}
 use Rattle.half_store.specs.Layout.{half_len}
 use Rattle.half_store.specs.Opened.{store_of}
 use Rattle.unit_journal.specs.Record.{entries_of}
-use Rattle.checkpoints.specs.Moment.{IsAnew}
-use Rattle.checkpoints.specs.Room.{need_of}
+use Rattle.store_check.specs.Moment.{IsAnew}
+use Rattle.store_check.specs.Room.{need_of}
 use Rattle.paged_tables.specs.PagedTables.{store_in}
 use Rattle.paged_checkpoints.specs.Written.{TellsWriting}
 use Rattle.paged_checkpoints.proofs.Counted.{apart_still, leaves_then, rests_still, told_before, told_then}

@@ -7,7 +7,7 @@ use Rattle.unit_journal.specs.Record.{entries_of}
 use Rattle.tables.specs.View.{is_store}
 use Rattle.checkpoint_writer.specs.declared.errors.ImageError.TheVariants.{Full}
 use Rattle.paged_tables.specs.TablesByName.{LieInside, created_of}
-use Rattle.checkpoints.proofs.Ending.{begun_old, some_half}
+use Rattle.store_check.proofs.Ending.{begun_old, some_half}
 use Rattle.paged_checkpoints.specs.Laying.{created_entry}
 use Rattle.paged_checkpoints.specs.declared.writing.Relaid.{Relaid}
 use Rattle.paged_checkpoints.proofs.Begun.{anew_then, leaves, leaves_synced, lent_shown, readable, room_told, stand_then, still_old}

@@ -6,7 +6,7 @@ use Rattle.half_store.specs.Writing.{from_of, next_of, pages_of}
 use Rattle.unit_journal.specs.Record.{entries_of}
 use Rattle.checkpoint_writer.proofs.Adding.{same_from}
 use Rattle.checkpoint_writer.specs.declared.ending.Switched.{Switched}
-use Rattle.checkpoints.proofs.Ending.{image_anew, image_leaves, pages_leave, refused_so, refused_still, still_old}
+use Rattle.store_check.proofs.Ending.{image_anew, image_leaves, pages_leave, refused_so, refused_still, still_old}
 use Rattle.paged_checkpoints.specs.Apart.{LiesFrom}
 use Rattle.paged_checkpoints.specs.Laying.{all_shown}
 use Rattle.paged_checkpoints.proofs.Framed.{anew_same, lie_among}

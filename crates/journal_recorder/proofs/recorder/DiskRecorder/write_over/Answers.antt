@@ -5,7 +5,7 @@ use Rattle.half_store.specs.declared.header.Layout.TheVariants.{Two}
 use Rattle.drda_disk.specs.Disk.{LeavesOnly}
 use Rattle.unit_journal.specs.Record.{entries_of}
 use Rattle.half_store.specs.Opened.{store_of}
-use Rattle.checkpoints.specs.Moment.{GoesOn, Moment}
+use Rattle.store_check.specs.Moment.{GoesOn, Moment}
 use Rattle.paged_tables.specs.PagedTables.{store_in}
 use Rattle.journal_recorder.specs.Checkpointing.{IsSwitched, LacksRoom}
 use Rattle.journal_recorder.specs.Recording.{disk_of}

@@ -24,9 +24,9 @@ use Rattle.checkpoint_writer.proofs.MergedRows.{at_moves, told_so}
 use Rattle.store_check.specs.Checkpoint.{forms}
 use Rattle.store_check.specs.Half.{page_at}
 use Rattle.store_check.specs.Written.{IsWritten}
-use Rattle.checkpoints.specs.Laying.{IsGood, laid_at, laid_from, rows_under}
-use Rattle.checkpoints.specs.Room.{entries_from, entry_of_table, pages_of_table, pages_of_tables}
-use Rattle.checkpoints.proofs.Placing.{bare_under}
+use Rattle.store_check.specs.Laying.{IsGood, laid_at, laid_from, rows_under}
+use Rattle.store_check.specs.Room.{entries_from, entry_of_table, pages_of_table, pages_of_tables}
+use Rattle.store_check.proofs.Placing.{bare_under}
 
 -- ---- a table more
 

@@ -15,7 +15,7 @@ use Rattle.tables.specs.Tables.{Table}
 use Rattle.tables.specs.View.{is_entry, is_table}
 use Rattle.table_map.specs.Keyed.{keyed_rows}
 use Rattle.table_map.specs.Table.{without_keys}
-use Rattle.checkpoints.specs.Laying.{IsGood}
+use Rattle.store_check.specs.Laying.{IsGood}
 
 -- ---- the rows of a table
 

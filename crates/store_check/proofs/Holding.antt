@@ -10,8 +10,8 @@ use Rattle.unit_journal.specs.Record.{Entry, laid}
 use Rattle.unit_journal.specs.Stands.{StandsFrom}
 use Rattle.tables.specs.Tables.{Store as Tables}
 use Rattle.store_check.specs.Checkpoint.{CheckpointsAreFramed, HasCheckpoint, half_pages}
-use Rattle.checkpoints.specs.Holds.{Holds, half_end, journal_at}
-use Rattle.checkpoints.specs.Moment.{IsOld, MomentsHold}
+use Rattle.store_check.specs.Holds.{Holds, half_end, journal_at}
+use Rattle.store_check.specs.Moment.{IsOld, MomentsHold}
 
 -- what lies in a half lies outside of the other one
 apart : (h : ℕ) (half : Half) (i m : ℕ) → offset_of h half ≤ i → i + m ≤ offset_of h half + h → (i + m ≤ offset_of h (other_than half)) ⊎ (offset_of h (other_than half) + h ≤ i)

@@ -29,10 +29,10 @@ use Rattle.store_check.specs.Checkpoint.{HasCheckpoint, at_keys, forms, store_on
 use Rattle.store_check.specs.Half.{page_at, pages_over}
 use Rattle.store_check.specs.Listed.{are_listed, first_page_of, is_before, lie_from, names_rise}
 use Rattle.store_check.specs.Written.{IsWritten, IsWrittenHalf, WrittenHalfIsWhole, entries_written, laid_table}
-use Rattle.checkpoints.specs.Laying.{laid_from, pages_with, rows_under}
-use Rattle.checkpoints.specs.Room.{entries_from, entry_of_table, pages_of_table, pages_of_tables}
-use Rattle.checkpoints.proofs.Placing.{all_short, bare_under, good_rows, table_parts}
-use Rattle.checkpoints.proofs.Moving.{good_all, is_good}
+use Rattle.store_check.specs.Laying.{laid_from, pages_with, rows_under}
+use Rattle.store_check.specs.Room.{entries_from, entry_of_table, pages_of_table, pages_of_tables}
+use Rattle.store_check.proofs.Placing.{all_short, bare_under, good_rows, table_parts}
+use Rattle.store_check.proofs.Moving.{good_all, is_good}
 
 -- ---- the entries
 

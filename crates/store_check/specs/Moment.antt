@@ -13,8 +13,8 @@ use Rattle.tables.specs.Tables.{Store as Tables}
 use Rattle.store_check.specs.Checkpoint.{HasCheckpoint}
 use Rattle.store_check.specs.Half.{pages_of}
 use Rattle.checkpoint_writer.specs.declared.ending.Switched.{Switched}
-use Rattle.checkpoints.specs.Holds.{Holds}
-use Rattle.checkpoints.specs.Room.{need_of}
+use Rattle.store_check.specs.Holds.{Holds}
+use Rattle.store_check.specs.Room.{need_of}
 
 -- The disk gives back what was written, a crash leaves what is read, and that is a store with this active half.
 pub record Rests (modelled : Bool) (disk : Life) (store : Store) : Type 0 where

@@ -26,9 +26,9 @@ use Rattle.checkpoint_writer.specs.declared.errors.ImageError.{ImageError}
 use Rattle.checkpoint_writer.specs.declared.errors.ImageError.TheVariants.{NoMemory, DeviceFailed, Damaged, Full}
 use Rattle.store_check.specs.Checkpoint.{CheckpointsAreFramed, HasCheckpoint}
 use Rattle.store_check.specs.Half.{pages_of as pages_of_active}
-use Rattle.checkpoints.specs.Laying.{pages_with}
-use Rattle.checkpoints.specs.Moment.{IsAnew, IsNew, IsOld, Moment}
-use Rattle.checkpoints.specs.Room.{pages_of_catalogue, pages_of_tables}
+use Rattle.store_check.specs.Laying.{pages_with}
+use Rattle.store_check.specs.Moment.{IsAnew, IsNew, IsOld, Moment}
+use Rattle.store_check.specs.Room.{pages_of_catalogue, pages_of_tables}
 
 -- ---- a gate that is closed
 

@@ -12,7 +12,7 @@ use Rattle.half_store.specs.Writing.{from_of, pages_of}
 use Rattle.half_store.specs.declared.image.ImageWriter.{ImageWriter}
 use Rattle.store_check.specs.Half.{HalfPages, page_at}
 use Rattle.store_check.specs.Written.{WrittenTable}
-use Rattle.checkpoints.specs.Room.{entry_of_table, pages_of_table}
+use Rattle.store_check.specs.Room.{entry_of_table, pages_of_table}
 
 -- a table as a store has it, with its name
 abbrev pub IsGood : List ℕ × Table → Type 0

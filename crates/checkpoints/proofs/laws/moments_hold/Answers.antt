@@ -1,5 +1,0 @@
-use Rattle.checkpoints.proofs.Holding.{moments}
-use Rattle.checkpoints.proofs.laws.moments_hold.Goals as goal
-
-pub returns : goal.returns
-returns c = moments c.checkpoints_are_known.ensures.framed
