@@ -1,10 +1,13 @@
 -- What stands on a disk once the head and the gate of the second half are written.
-use Rattle.std.proofs.Common.{◌≡◌, ◌∙◌, sym, ap, subst, ℕ, ◌+◌, ◌<◌, ◌≤◌, List, [], ◌∷◌, length, get_or, add-zero, arith, refl}
+use Rattle.std.proofs.Common.{◌≡◌, ◌∙◌, sym, ap, subst, ℕ, ◌+◌, ◌<◌, ◌≤◌, List, [], ◌∷◌, length, drop, get_or, add-zero, arith, refl}
+use Rattle.std.proofs.lemmas.List.{get_or-drop, get_or-take}
 use Rattle.drda_words.specs.Place.{part}
 use Rattle.drda_disk.specs.Disk.{Torn, overlaid}
 use Rattle.drda_disk.specs.Images.{Torn-overlaid}
 use Rattle.drda_disk.proofs.Parts.{part_after, part_before, part-overlaid}
-use Rattle.grown_stores.proofs.Written.{byte_in}
+
+byte_in : (file : List ℕ) (at n i : ℕ) → i < n → get_or (part file at n) i 0 ≡ get_or file (at + i) 0
+byte_in file at n i low = get_or-take n (drop at file) i 0 low ∙ get_or-drop at file i 0
 
 module _ (mid now head : List ℕ) (at : ℕ) (front : 8 + length head ≤ 8192) (behind : 8192 ≤ at) (inside : at < length mid) (written : now ≡ overlaid (overlaid mid 8 head) at (0 ∷ [])) where
   cut_head : Torn 8 (length head) mid (overlaid mid 8 head)

@@ -1,6 +1,5 @@
 mod Moved
 mod Grown
-mod Written
 mod Copied
 mod Laid
 mod Finished

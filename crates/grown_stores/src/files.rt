@@ -11,7 +11,8 @@ use std::io::Write;
 use store_files::{Fault, StoreFiles, open_file, tell};
 
 /// Moves the store of a path, which is not served, into a new file of so many bytes, and says so: its name, its tables and its units in doubt,
-/// with their outcomes and their claims. The old file is not written. A crash on the way leaves no store in the new file, or all of it.
+/// with their outcomes and their claims. The old file is not written. A crash on the way leaves no store in the new file, or all of it,
+/// whatever is answered.
 ///
 /// Faults: those of opening the store; `NoRoom`, the size is no store's, or one of a smaller one; `Device`, the new file can't be
 /// made or written, or is there already; `NoMemory`. Of what was not moved no file is left.

@@ -26,12 +26,12 @@ const ANY_NAME: &str = "RDB";
 /// active half, and so all that it opens to. The old disk is only read. What was written is opened in the end, and found to be that store.
 ///
 /// `NoRoom` comes where the other disk has shorter halves, or no store's size, before anything is written; else memory may be refused, or
-/// a device fails. Where this succeeds, on a disk that did not begin as a store, a crash at any moment of it leaves no store, or the whole
-/// of it.
+/// a device fails. On a disk that did not begin as a store a crash at any moment leaves no store, or the whole of it, whatever this answers.
 pub fn grow<D: Disk, E: Disk>(alloc: Global, old: &mut D, new: &mut E) -> Result<(), Fault>
     ensures grown { OnOk result (IsTrue D.is_modelled → IsTrue E.is_modelled → Only (E.life new.new) × IsGrown (D.life old.old).seen (E.life new.new).seen) }
-    ensures moments { OnOk result (IsTrue D.is_modelled → IsTrue E.is_modelled → IsUnmarked (E.life new.old) → LeavesOnly (E.life new.old) (E.life new.new) (IsNoneOrGrown (D.life old.old).seen)) }
+    ensures moments { IsTrue D.is_modelled → IsTrue E.is_modelled → IsUnmarked (E.life new.old) → LeavesOnly (E.life new.old) (E.life new.new) (IsNoneOrGrown (D.life old.old).seen) }
     ensures stays { Stays (D.life old.old) (D.life old.new) }
+    ensures size { length (E.life new.new).seen ≡ length (E.life new.old).seen }
 {
     match half_store::open(alloc, old) {
         Ok(active) => grow_half(alloc, old, &active, new),
@@ -66,8 +66,9 @@ fn grow_half<D: Disk, E: Disk>(
     requires active { IsTrue D.is_modelled → active_of (D.life old.old).seen ≡ Ok (store_of active.now) }
     requires region { IsBehindPages (half_len (length (D.life old.old).seen)) active.now }
     ensures grown { OnOk result (IsTrue D.is_modelled → IsTrue E.is_modelled → Only (E.life new.new) × IsGrown (D.life old.old).seen (E.life new.new).seen) }
-    ensures moments { OnOk result (IsTrue D.is_modelled → IsTrue E.is_modelled → IsUnmarked (E.life new.old) → LeavesOnly (E.life new.old) (E.life new.new) (IsNoneOrGrown (D.life old.old).seen)) }
+    ensures moments { IsTrue D.is_modelled → IsTrue E.is_modelled → IsUnmarked (E.life new.old) → LeavesOnly (E.life new.old) (E.life new.new) (IsNoneOrGrown (D.life old.old).seen) }
     ensures stays { Stays (D.life old.old) (D.life old.new) }
+    ensures size { length (E.life new.new).seen ≡ length (E.life new.old).seen }
 {
     let (from, size) = (old.size(), new.size());
     if !fits(from, size) || !is_store(size, &active.name) {
@@ -88,6 +89,7 @@ fn finish<E: Disk>(alloc: Global, active: &Active, new: &mut E) -> Result<(), Fa
     ensures there { OnOk result (IsTrue E.is_modelled → active_of (E.life new.new).seen ≡ Ok (record (store_of active.now) { half = First })) }
     ensures durable { OnOk result (Only (E.life new.new)) }
     ensures moments { LeavesOnly (E.life new.old) (E.life new.new) (Torn 0 8 (E.life new.old).seen) }
+    ensures size { length (E.life new.new).seen ≡ length (E.life new.old).seen }
 {
     match write_through(new, 0, &MARK) {
         Ok(()) => {}

@@ -1,11 +1,11 @@
 //! A half and what stands beside it, but for the mark.
 
-ghost use Rattle.std.specs.Prelude.{◌≡◌, ◌+◌, ◌^◌, ◌<◌, ◌≤◌, IfErr, IsTrue, OnOk, false, length, slice_index};
-ghost use Rattle.drda_words.specs.Place.{part};
+ghost use Rattle.std.specs.Prelude.{◌≡◌, ◌+◌, ◌^◌, ◌<◌, ◌≤◌, IfErr, OnOk, false, length};
 ghost use Rattle.drda_disk.specs.Disk.{LeavesOnly, Only, Stays};
 ghost use Rattle.half_store.specs.Active.{is_marked};
 ghost use Rattle.half_store.specs.Fresh.{IsUnmarked};
 ghost use Rattle.store_files.specs.Stores.{IsOfDevice};
+ghost use Rattle.grown_stores.specs.Growing.{HasRoom, IsMoved};
 
 pub(crate) use crate::copying::FIRST_AT;
 use crate::copying::copy;
@@ -26,13 +26,9 @@ pub(crate) fn move_half<D: Disk, E: Disk>(
     second_at: usize,
 ) -> Result<(), Fault>
     requires there { from + count ≤ length (D.life old.old).seen }
-    requires room { 8192 + count ≤ second_at }
-    requires inside { second_at < length (E.life new.old).seen }
+    requires room { HasRoom count second_at (length head.now) (length (E.life new.old).seen) }
     requires small { (from + count < 2 ^ 64) × (8192 + count < 2 ^ 64) }
-    requires front { 8 + length head.now ≤ 8192 }
-    ensures copied { OnOk result (IsTrue D.is_modelled → IsTrue E.is_modelled → part (E.life new.new).seen 8192 count ≡ part (D.life old.old).seen from count) }
-    ensures head { OnOk result (IsTrue E.is_modelled → part (E.life new.new).seen 8 (length head.now) ≡ head.now) }
-    ensures second { OnOk result (IsTrue E.is_modelled → slice_index (E.life new.new).seen second_at ≡ 0) }
+    ensures moved { OnOk result (IsMoved D.is_modelled E.is_modelled (D.life old.old).seen from count head.now second_at (E.life new.new).seen) }
     ensures durable { OnOk result (Only (E.life new.new)) }
     ensures size { length (E.life new.new).seen ≡ length (E.life new.old).seen }
     ensures stays { Stays (D.life old.old) (D.life old.new) }

@@ -17,11 +17,12 @@ pub returns-in-Ok-grow-clause-grown : goal.returns-in-Ok-grow-clause-grown
 returns-in-Ok-grow-clause-grown g c =
     let there = found g.F.Disk.Disk.is_modelled g.F.Disk.Disk.life g.F.StoreFiles.calls c.args.files.now c.args.path.now c.in_ok-core.core c.open_file.new.files c.in_ok-core.ensures in
     is_grown_file g.F.Disk.Disk.is_modelled g.F.Disk.Disk.life g.F.StoreFiles.calls c.args.files.now c.args.path.now c.args.new.now c.args.size c.in_ok-core.core c.open_file.new.files there
-    c.grown_stores_open.ensures c.into_disk-old.result c.into_disk-old.ensures c.in-Ok.disk c.grow.new.new c.grow.new.old c.create.new.self c.in-Ok.ensures.call c.in-Ok.ensures.zeros c.in-Ok.ensures.durable
-    c.in-Ok-grow.ensures.grown c.in-Ok-grow.ensures.moments c.grow.ensures.stays
+    c.grown_stores_open.ensures c.into_disk-old.result c.into_disk-old.ensures c.in-Ok.disk c.grow.new.new c.grow.new.old c.in-Ok.ensures.zeros c.in-Ok.ensures.durable c.grow.ensures.moments c.grow.ensures.stays
+    c.create.new.self c.in-Ok.ensures.call c.in-Ok-grow.ensures.grown c.grow.ensures.size
 
 pub returns-clause-not : goal.returns-clause-not
 returns-clause-not g c =
     let there = found g.F.Disk.Disk.is_modelled g.F.Disk.Disk.life g.F.StoreFiles.calls c.args.files.now c.args.path.now c.in_ok-core.core c.open_file.new.files c.in_ok-core.ensures in
     taken_away g.F.Disk.Disk.is_modelled g.F.Disk.Disk.life g.F.StoreFiles.calls c.args.files.now c.args.path.now c.args.new.now c.args.size c.in_ok-core.core c.open_file.new.files there
-    _ c.in-Ok.disk c.create.new.self c.discard.new.self c.in-Ok.ensures.call c.discard.ensures.call
+    c.grown_stores_open.ensures c.into_disk-old.result c.into_disk-old.ensures c.in-Ok.disk c.grow.new.new c.grow.new.old c.in-Ok.ensures.zeros c.in-Ok.ensures.durable c.grow.ensures.moments c.grow.ensures.stays
+    _ c.create.new.self c.discard.new.self c.in-Ok.ensures.call c.discard.ensures.call
