@@ -5,14 +5,12 @@ ghost use Rattle.drda_server.specs.Threads.{IsAttended};
 
 use crate::attendance::Attendance;
 use crate::attended::Attended;
+use core_history::PLACES;
 use drda_disk::Disk;
 use shared_node::Origin;
 use std::alloc::{AllocError, Global};
 use std::io::{Read, Write};
 use std::thread::{PromisedHandle, Threads};
-
-/// How many conversations are served at a time.
-pub(crate) const PLACES: usize = 64;
 
 /// The thread that attends to a conversation.
 pub(crate) type Attendant<D, B, I, O> = PromisedHandle<Attended<I, O>, Attendance<D, B, I, O>>;

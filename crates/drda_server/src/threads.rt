@@ -8,8 +8,9 @@ ghost use Rattle.drda_server.specs.Threads.{IsReceived, IsTurnedAway, ServesAll}
 use crate::arrivals::Streams;
 use crate::attendance::Attendance;
 use crate::attending::{Hall, attend};
-use crate::handles::{PLACES, join_all, join_at, no_threads, put_at};
+use crate::handles::{join_all, join_at, no_threads, put_at};
 use conversation::Settings;
+use core_history::PLACES;
 use drda_disk::Disk;
 use drda_guests::{Doors, Failure, Fullness, Log, Longest, Notice, tell_turn};
 use shared_node::{Gate, Origin, Pass, Shared};

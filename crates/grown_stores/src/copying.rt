@@ -8,11 +8,9 @@ ghost use Rattle.half_store.specs.Fresh.{IsUnmarked};
 ghost use Rattle.store_files.specs.Stores.{IsOfDevice};
 
 use drda_disk::{Disk, ReadFault, read_bytes};
+use half_store::FIRST_AT;
 use std::alloc::Global;
 use store_files::Fault;
-
-/// The offset of the first half.
-pub(crate) const FIRST_AT: usize = 8_192;
 
 /// So many bytes are copied at once.
 const AT_ONCE: usize = 1_048_576;

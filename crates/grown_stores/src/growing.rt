@@ -10,14 +10,11 @@ ghost use Rattle.half_store.specs.declared.layout.Half.TheVariants.{First};
 ghost use Rattle.grown_stores.specs.Growing.{IsGrown, IsNoneOrGrown};
 
 use crate::laying::head_of;
-use crate::moving::{FIRST_AT, move_half};
+use crate::moving::move_half;
 use drda_disk::{Disk, DiskFault, write_through};
-use half_store::{Active, Half, OpenError, half_bytes, is_store};
+use half_store::{Active, FIRST_AT, Half, MARK, OpenError, half_bytes, is_store};
 use std::alloc::Global;
 use store_files::Fault;
-
-/// The first bytes of every store.
-const MARK: [u8; 8] = *b"DRDASTO1";
 
 /// A name that a store may have.
 const ANY_NAME: &str = "RDB";

@@ -6,16 +6,8 @@ ghost use Rattle.half_store.specs.Active.{is_marked};
 ghost use Rattle.half_store.specs.Fresh.{IsUnmarked, head_bytes};
 
 use drda_disk::{Disk, DiskFault};
+use half_store::{CLOSED, MARK_BYTES, push_head};
 use std::alloc::{AllocError, Global};
-
-/// The bytes of the mark, which stands in front of the head.
-const MARK_BYTES: usize = 8;
-
-/// A gate that is closed.
-const CLOSED: [u8; 1] = [0];
-
-/// The layout of the head.
-const LAYOUT: u32 = 1;
 
 /// The head of a store of this size and name, behind its mark.
 pub(crate) fn head_of(alloc: Global, size: usize, name: &str) -> Result<Vec<u8>, AllocError>
@@ -23,10 +15,7 @@ pub(crate) fn head_of(alloc: Global, size: usize, name: &str) -> Result<Vec<u8>,
     ensures { IfOk result (λ bytes. bytes.items ≡ head_bytes size name.now) }
 {
     let mut bytes = Vec::new(alloc);
-    bytes.extend_from_slice(&LAYOUT.to_be_bytes())?;
-    bytes.extend_from_slice(&(size as u64).to_be_bytes())?;
-    bytes.push(name.len() as u8)?;
-    bytes.extend_from_slice(name.as_bytes())?;
+    push_head(&mut bytes, size, name)?;
     Ok(bytes)
 }
 
@@ -42,7 +31,7 @@ pub(crate) fn lay<D: Disk>(disk: &mut D, head: &[u8], second_at: usize) -> Resul
     ensures cause { CountsFault result (D.life disk.old).faults (D.life disk.new).faults }
 {
     disk.write_at(MARK_BYTES, head)?;
-    disk.write_at(second_at, &CLOSED)?;
+    disk.write_at(second_at, &[CLOSED])?;
     disk.sync()?;
     Ok(())
 }

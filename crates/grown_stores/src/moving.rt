@@ -7,7 +7,6 @@ ghost use Rattle.half_store.specs.Fresh.{IsUnmarked};
 ghost use Rattle.store_files.specs.Stores.{IsOfDevice};
 ghost use Rattle.grown_stores.specs.Growing.{HasRoom, IsMoved};
 
-pub(crate) use crate::copying::FIRST_AT;
 use crate::copying::copy;
 use crate::laying::lay;
 use drda_disk::{Disk, DiskFault};

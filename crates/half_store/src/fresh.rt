@@ -20,8 +20,9 @@ const FIRST_HEADER: Header = Header {
 /// The rest of the head's page behind the mark.
 const HEAD_PAGE_BYTES: usize = PAGE_BYTES - MARK_BYTES;
 
-/// Puts a head behind other bytes, but for its mark.
-fn push_head(bytes: &mut Vec<u8>, size: usize, name: &str) -> Result<(), AllocError>
+/// Puts the head of a store of this size and name behind other bytes, but for its mark. Where memory is
+/// refused, some of it may stand there.
+pub fn push_head(bytes: &mut Vec<u8>, size: usize, name: &str) -> Result<(), AllocError>
     requires { length name.now ≤ 18 }
     ensures { OnOk result (bytes.new.items ≡ bytes.old.items ++ head_bytes size name.now) }
 {

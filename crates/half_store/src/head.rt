@@ -13,10 +13,10 @@ use drda_disk::Disk;
 use std::alloc::{AllocError, Global};
 
 /// The bytes of the mark.
-pub(crate) const MARK_BYTES: usize = 8;
+pub const MARK_BYTES: usize = 8;
 
 /// The first bytes of every store.
-pub(crate) const MARK: [u8; MARK_BYTES] = *b"DRDASTO1";
+pub const MARK: [u8; MARK_BYTES] = *b"DRDASTO1";
 
 /// The one layout that there is.
 pub(crate) const LAYOUT: u32 = 1;

@@ -17,7 +17,7 @@ const LAYOUT_AT: usize = 21;
 const HEADER_BYTES: usize = 25;
 
 /// What is written to close a gate.
-pub(crate) const CLOSED: u8 = 0;
+pub const CLOSED: u8 = 0;
 
 /// How the journal of a half is laid out: which records it may have, and how many bytes a branch in
 /// doubt holds back.

@@ -6,7 +6,7 @@ ghost use Rattle.half_store.specs.Layout.{is_store_size, half_len, are_printable
 pub(crate) const PAGE_BYTES: usize = 8_192;
 
 /// The offset of the first half: behind the page of the head.
-pub(crate) const FIRST_AT: usize = PAGE_BYTES;
+pub const FIRST_AT: usize = PAGE_BYTES;
 
 /// A store has 2 MiB at least.
 const LEAST_SIZE: usize = 2_097_152;
