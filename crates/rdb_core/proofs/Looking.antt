@@ -11,13 +11,13 @@ use Rattle.core_model.specs.Misread.{Misreads, over, reads_rows}
 use Rattle.core_model.specs.Step.{CoreState, answer, owner_of, step_state}
 use Rattle.core_model.specs.Units.{Held, Owner}
 use Rattle.ahead_view.specs.Given.{StandsFor}
-use Rattle.rdb_core.specs.Given.{IsAsked, IsGiven}
-use Rattle.rdb_core.specs.Looks.{StepsOver}
-use Rattle.rdb_core.specs.Question.{call_asking, question_of}
+use Rattle.unit_statements.specs.Given.{IsAsked, IsGiven, units_after}
+use Rattle.unit_statements.specs.Question.{question_of}
+use Rattle.unit_statements.specs.declared.question.Question.{Question}
+use Rattle.unit_statements.specs.declared.question.Question.TheVariants.{Querying, Running}
+use Rattle.rdb_core.specs.Looks.{StepsOver, call_asking}
 use Rattle.rdb_core.specs.Recorded.{IsRecorded}
-use Rattle.rdb_core.specs.Steps.{IsTaken, units_after}
-use Rattle.rdb_core.specs.declared.question.Question.{Question}
-use Rattle.rdb_core.specs.declared.question.Question.TheVariants.{Querying, Running}
+use Rattle.rdb_core.specs.Steps.{IsTaken}
 
 -- ---- a question is one step
 
