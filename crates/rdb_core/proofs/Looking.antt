@@ -96,7 +96,13 @@ module _ {R : Type 0} (records : R → UnitRecord → R → Type 0) (fails : R �
       }))
   by_read is_told given asked (inr read) = inr (asks_for_rows q, inl (record { step = by_told is_told given read.0 asked; read = read.1 }))
 
-  -- what a question comes to, of any source
-  pub asked_over : (is_told : Bool) (o : Owner) → o ≡ owner_of old.branches conversation → IsGiven is_told reads old.base.store before after (IsAsked o (question_of q) old.base.units units told)
+  by_given : (is_told : Bool) (o : Owner) → o ≡ owner_of old.branches conversation → IsGiven is_told reads old.base.store before after (IsAsked o (question_of q) old.base.units units told)
       → StepsOver is_told records fails reads fails_to_read old conversation (call_asking (question_of q)) told (with_units old units) before after
-  asked_over is_told o is g = by_read is_told g.given (subst (λ (p : Owner). IsAsked p (question_of q) old.base.units units told g.given) is g.told) g.read
+  by_given is_told o is g = by_read is_told g.given (subst (λ (p : Owner). IsAsked p (question_of q) old.base.units units told g.given) is g.told) g.read
+
+  -- what a question comes to, of any source, where the committed tables stay
+  pub asked_over : (store : Store) → store ≡ old.base.store → (is_told : Bool) (o : Owner) → o ≡ owner_of old.branches conversation → IsGiven is_told reads old.base.store before after (IsAsked o (question_of q) old.base.units units told)
+      → StepsOver is_told records fails reads fails_to_read old conversation (call_asking (question_of q)) told (record { base = record { store = store; units = units }; branches = old.branches }) before after
+  asked_over store stays is_told o is g =
+      let In : Store → CoreState = λ s. record { base = record { store = s; units = units }; branches = old.branches } in
+      subst (λ (s : Store). StepsOver is_told records fails reads fails_to_read old conversation (call_asking (question_of q)) told (In s) before after) (sym stays) (by_given is_told o is g)
