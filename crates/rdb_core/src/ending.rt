@@ -159,7 +159,8 @@ fn finish(
 {
     match recorded {
         Ok(()) => {
-            base.tables.apply_reserved(alloc, base.units.end(owner).into_vec());
+            let changes = base.units.end(owner).into_vec();
+            base.tables.apply_reserved(alloc, changes);
             Ok(())
         }
         Err(error) => {

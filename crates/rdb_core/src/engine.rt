@@ -100,12 +100,7 @@ impl<R: Recorder> Core<R> {
             None => {}
         }
         let owner = Owner::Local(conversation);
-        match commit_unit(
-            &mut self.base,
-            &mut self.recorder,
-            self.alloc,
-            &owner,
-        ) {
+        match commit_unit(&mut self.base, &mut self.recorder, self.alloc, &owner) {
             Ok(()) => Answer::Done,
             Err(error) => refused(error),
         }

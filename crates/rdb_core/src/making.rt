@@ -47,13 +47,7 @@ impl<R: Recorder> Core<R> {
             Err(AllocError) => return Err(GroupError::Refused),
         }
         let recorded = record_all(&self.base.units, &mut self.recorder, self.alloc, calls);
-        finish_all(
-            &mut self.base,
-            self.alloc,
-            calls,
-            changes,
-            recorded,
-        )?;
+        finish_all(&mut self.base, self.alloc, calls, changes, recorded)?;
         settle_all(&mut self.branches, calls);
         Ok(())
     }
