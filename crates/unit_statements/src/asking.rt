@@ -30,11 +30,12 @@ use unit_locks::Claim;
 use unit_table::{KeepError, Owner, Units};
 
 impl Base {
-    /// What a fit statement of an owner's unit is answered over the committed tables, whose rows the source reads, and what
-    /// becomes of the unit: it keeps the claims of the statement and its changes, both or neither. The tables stay. A claim
-    /// that clashes with one of another unit is refused by `Clashes`, and nothing is read; more than 65,535 claims of one unit are refused by
-    /// `TooManyClaims`. Rows of more than so many bytes are no answer, as where memory is refused. Where memory is, or a
-    /// read fails, all units stay.
+    /// What a fit statement of an owner's unit is answered over the committed tables, whose rows the source reads, and
+    /// what becomes of the unit: it keeps the claims of the statement and its changes, both or neither. The tables stay.
+    ///
+    /// `Clashes` is answered exactly where a claim of it clashes with one of another unit, and then no row is read;
+    /// `TooManyClaims` where its unit would have more than 65,535. Memory may be refused, also where the rows of an answer
+    /// take more than `row_bytes` (8 bytes each beside its own), and the device may fail in a read: then all units stay.
     ///
     /// Of a source that is not told it may be given other rows of the same tables, and is then answered over these.
     pub fn ask<R: Source>(
@@ -59,9 +60,9 @@ impl Base {
         }
     }
 
-    /// What a description is answered of a statement that creates no table, over the committed tables, and
-    /// what becomes of the unit: it claims nothing, but for a table that is not there, which it claims to read. No row is
-    /// read, and the tables stay. Where memory is refused, all units stay.
+    /// What a description is answered of a statement that creates no table, over the committed tables, and what becomes of
+    /// the unit: it claims nothing, but to read a table that is not there. No row is read, and the tables stay. `Clashes`
+    /// and `TooManyClaims` are answered as where the statement is run. Memory may be refused: then all units stay.
     pub fn describe(
         &mut self,
         alloc: Global,

@@ -1,8 +1,6 @@
 //! The committed tables, and the units that work over them.
 
 ghost use Rattle.std.specs.Prelude.{◌≡◌, []};
-ghost use Rattle.paged_tables.specs.PagedTables.{store_in};
-ghost use Rattle.unit_statements.specs.Base.{base_of};
 
 use paged_tables::PagedTables;
 use std::alloc::Global;
@@ -11,15 +9,17 @@ use unit_table::Units;
 /// The committed tables, and the units that work over them. Contracts see both by `base_of`, as the core's step has them.
 #[derive(Drop)]
 pub struct Base {
+    /// The committed tables.
     pub tables: PagedTables,
+    /// The units that have work.
     pub units: Units,
 }
 
 impl Base {
     /// These committed tables, over which no unit works yet. Takes no memory.
     pub fn new(alloc: Global, tables: PagedTables) -> Base
-        ensures base { base_of result ≡ record { store = store_in tables; units = [] } }
         ensures tables { result.tables ≡ tables }
+        ensures units { result.units ≡ [] }
     {
         Base {
             tables,
