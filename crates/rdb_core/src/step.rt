@@ -21,7 +21,7 @@ use row_values::Value;
 use sql_text::Statement;
 use std::alloc::AllocError;
 use unit_records::Recorder;
-use unit_statements::{Question, unfit, unfit_to_describe};
+use unit_statements::{Question, QuestionKind, unfit, unfit_to_describe};
 
 impl<R: Recorder + Source> Core<R> {
     /// What a conversation asks is answered, and the core takes one step. What is committed, prepared,
@@ -76,7 +76,8 @@ impl<R: Recorder + Source> Core<R> {
     {
         self.ask(
             conversation,
-            Question::Running {
+            Question {
+                kind: QuestionKind::Run,
                 statement,
                 parameters,
             },
@@ -100,7 +101,8 @@ impl<R: Recorder + Source> Core<R> {
     {
         self.ask(
             conversation,
-            Question::Querying {
+            Question {
+                kind: QuestionKind::Query,
                 statement,
                 parameters,
             },

@@ -1,6 +1,6 @@
 //! What becomes of a unit that asks.
 
-ghost use Rattle.std.specs.Prelude.{◌≡◌, IfOk, None, OnErr, OnOk, false, map, true};
+ghost use Rattle.std.specs.Prelude.{◌≡◌, [], IfOk, None, OnErr, OnOk, false, map, true};
 ghost use Rattle.tables.specs.ChangeView.{change_of};
 ghost use Rattle.ahead_view.specs.Source.{LeavesReader, MayRead};
 ghost use Rattle.core_calls.specs.Answer.{answer_of};
@@ -97,27 +97,9 @@ fn look<R: Source>(
     ensures source { LeavesReader (MayRead R.reads) R.fails_to_read source.old result source.new }
     ensures clash { clashes (claims_of (question_of question.entry) (view (store_in base.now.tables) (unit_of (plain_owner owner.now) base.now.units))) (others (plain_owner owner.now) base.now.units) ≡ true → source.new ≡ source.old }
 {
-    match base.units.unit(owner) {
-        Some(changes) => {
-            let sight = Sight {
-                tables: &base.tables,
-                changes,
-                alloc,
-                row_bytes,
-            };
-            find(&sight, source, &base.units, owner, question)
-        }
-        None => {
-            let none = UnitChanges::new(alloc);
-            let sight = Sight {
-                tables: &base.tables,
-                changes: &none,
-                alloc,
-                row_bytes,
-            };
-            find(&sight, source, &base.units, owner, question)
-        }
-    }
+    let none = UnitChanges::new(alloc);
+    let sight = sight_of(base, owner, &none, alloc, row_bytes);
+    find(&sight, source, &base.units, owner, question)
 }
 
 // What a description comes to of a statement that creates no table, over the committed tables.
@@ -131,26 +113,32 @@ fn look_for_description(
     requires fit { unfit (describing statement.now side) ≡ None }
     ensures { IfOk result (λ found. FindsOver found (others (plain_owner owner.now) base.now.units) (describing statement.now side) (left_of (unit_of (plain_owner owner.now) base.now.units)) (view (store_in base.now.tables) (unit_of (plain_owner owner.now) base.now.units))) }
 {
-    match base.units.unit(owner) {
-        Some(changes) => {
-            let sight = Sight {
-                tables: &base.tables,
-                changes,
-                alloc,
-                row_bytes: usize::MAX,
-            };
-            find_description(&sight, &base.units, owner, statement, side)
-        }
-        None => {
-            let none = UnitChanges::new(alloc);
-            let sight = Sight {
-                tables: &base.tables,
-                changes: &none,
-                alloc,
-                row_bytes: usize::MAX,
-            };
-            find_description(&sight, &base.units, owner, statement, side)
-        }
+    let none = UnitChanges::new(alloc);
+    let sight = sight_of(base, owner, &none, alloc, usize::MAX);
+    find_description(&sight, &base.units, owner, statement, side)
+}
+
+// What an owner's unit sees; a unit without work is not listed, and has changed nothing.
+fn sight_of<'a>(
+    base: &'a Base,
+    owner: &Owner,
+    none: &'a UnitChanges,
+    alloc: Global,
+    row_bytes: usize,
+) -> Sight<'a>
+    requires { none.now ≡ [] }
+    ensures tables { result.tables.now ≡ base.now.tables }
+    ensures changes { result.changes.now ≡ (unit_of (plain_owner owner.now) base.now.units).changes }
+{
+    let changes = match base.units.unit(owner) {
+        Some(changes) => changes,
+        None => none,
+    };
+    Sight {
+        tables: &base.tables,
+        changes,
+        alloc,
+        row_bytes,
     }
 }
 

@@ -59,16 +59,8 @@ pub(crate) fn find<R: Source>(
     ensures source { LeavesReader (MayRead R.reads) R.fails_to_read source.old result source.new }
     ensures clash { clashes (claims_of (question_of question.entry) (seen_by sight.now)) (others (plain_owner owner.now) units.now) ≡ true → source.new ≡ source.old }
 {
-    match question {
-        Question::Running {
-            statement,
-            parameters,
-        } => find_statement(sight, source, units, owner, &statement.command, parameters),
-        Question::Querying {
-            statement,
-            parameters,
-        } => find_statement(sight, source, units, owner, &statement.command, parameters),
-    }
+    let command = &question.statement.command;
+    find_statement(sight, source, units, owner, command, question.parameters)
 }
 
 // What a statement with these values for its markers comes to: it is bound once, and what it claims, is

@@ -10,4 +10,4 @@ mod sight;
 mod wanted;
 
 pub use base::Base;
-pub use question::{Question, unfit, unfit_to_describe};
+pub use question::{Question, QuestionKind, unfit, unfit_to_describe};
