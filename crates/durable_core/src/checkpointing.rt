@@ -72,7 +72,7 @@ impl<D: Disk> DurableCore<D> {
             Ok(records) => records,
             Err(AllocError) => return Checkpointed::NoMemory,
         };
-        match find_places(self.core.alloc, &self.core.store, records.as_slice()) {
+        match find_places(self.core.alloc, &self.core.base.tables, records.as_slice()) {
             Ok(()) => {}
             Err(_) => return Checkpointed::NoMemory,
         }
@@ -80,7 +80,7 @@ impl<D: Disk> DurableCore<D> {
         told(
             self.core
                 .recorder
-                .checkpoint(&mut self.core.store, records.as_slice(), held),
+                .checkpoint(&mut self.core.base.tables, records.as_slice(), held),
         )
     }
 }

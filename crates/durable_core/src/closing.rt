@@ -19,6 +19,6 @@ impl<D: Disk> DurableCore<D> {
     {
         let core = self.core;
         let recorder = core.recorder;
-        (core.store, recorder.into_disk())
+        (core.base.tables, recorder.into_disk())
     }
 }

@@ -1,13 +1,8 @@
-pub mod Base
 pub mod InDoubt
 pub mod State
 pub mod Recorded
 pub mod Steps
 pub mod Looks
-pub mod Question
-pub mod Sight
-pub mod Found
-pub mod Given
 pub mod Restored
 pub mod Copied
 pub mod PlainState

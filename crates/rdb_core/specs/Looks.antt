@@ -9,10 +9,16 @@ use Rattle.core_calls.specs.Call as call
 use Rattle.core_calls.specs.Call.{Call}
 use Rattle.core_calls.specs.Answer.{Answer, device_failed, no_memory}
 use Rattle.core_model.specs.Misread.{Misreads, reads_rows}
-use Rattle.core_model.specs.Asked.{Clashes, querying, running}
+use Rattle.core_model.specs.Asked.{Clashes, Question, describing, querying, running}
 use Rattle.core_model.specs.Events.{asked_of}
 use Rattle.core_model.specs.Step.{CoreState, owner_of}
 use Rattle.rdb_core.specs.Steps.{IsTaken, Steps}
+
+-- the call that asks it
+abbrev pub call_asking : Question → Call
+call_asking (running t params) = call.run t params
+call_asking (querying t params) = call.query t params
+call_asking (describing t side) = call.describe t side
 
 -- some claim of a statement clashes with one of another unit: it reads nothing
 abbrev pub IsClashing : CoreState → ℕ → Call → Type 0

@@ -12,9 +12,9 @@ use Rattle.unit_records.specs.declared.record_error.RecordError.{RecordError}
 use Rattle.core_calls.specs.Call as call
 use Rattle.core_calls.specs.Call.{Call}
 use Rattle.core_calls.specs.Answer.{Answer}
-use Rattle.core_model.specs.Units.{Held, Owner, global, has_any, local, set_unit, unit_of, without}
+use Rattle.core_model.specs.Units.{Held, global, has_any, local, unit_of, without}
 use Rattle.core_calls.specs.declared.sql_fault.SqlFault.{SqlFault}
-use Rattle.core_model.specs.Asked.{Clashes, Done, Outcome, TooMany, Unfit, describing, querying, running, unfit}
+use Rattle.core_model.specs.Asked.{describing, querying, running, unfit}
 use Rattle.core_model.specs.Step.{CoreState, answer, due_in, step_state}
 use Rattle.rdb_core.specs.Recorded.{IsRecorded, Refuses, refusal_answer}
 
@@ -72,10 +72,3 @@ may_want_any s conversation call.lost = false
 abbrev pub left_units : List (List ℕ) → List Held → List Held
 left_units [] units = units
 left_units (x ∷ xs) units = left_units xs (without (global x) units)
-
--- the units once a question of an owner has come out so
-abbrev pub units_after : List Held → Owner → Outcome → List Held
-units_after units o (Unfit f) = units
-units_after units o Clashes = units
-units_after units o TooMany = units
-units_after units o (Done a u) = set_unit o u units

@@ -40,8 +40,7 @@ impl<R: Recorder> Core<R> {
         ensures pages { PagesStay (pages_of self.old) (pages_of self.new) }
     {
         end_decided(
-            &mut self.store,
-            &mut self.units,
+            &mut self.base,
             &mut self.recorder,
             self.alloc,
             xid,

@@ -19,7 +19,8 @@ use core_calls::Answer;
 use paged_tables::PagedTables;
 use std::alloc::{AllocError, Global};
 use unit_records::Recorder;
-use unit_table::{Owner, Units};
+use unit_statements::Base;
+use unit_table::Owner;
 use xa_calls::{InvalidRequest, Request, Verb, XaCode, Xid};
 use xa_manager::{Work, XaTable};
 
@@ -30,10 +31,9 @@ use xa_manager::{Work, XaTable};
 pub struct Core<R: Recorder> {
     /// Where memory is asked for.
     pub alloc: Global,
-    /// The committed tables. Whoever holds the core may lend them and who records at once, as a
+    /// The committed tables and the units. Whoever holds the core may lend the tables and who records at once, as a
     /// checkpoint does.
-    pub store: PagedTables,
-    pub(crate) units: Units,
+    pub base: Base,
     pub(crate) branches: XaTable,
     // The bytes of rows that an answer may have. No clause speaks of it.
     pub(crate) row_bytes: usize,
@@ -48,14 +48,7 @@ impl<R: Recorder> Core<R> {
         ensures recorder { recorder_of result ≡ recorder }
         ensures pages { pages_of result ≡ [] }
     {
-        Core {
-            alloc,
-            store: PagedTables::new(alloc),
-            units: Units::new(alloc),
-            branches: XaTable::new(alloc),
-            row_bytes: usize::MAX,
-            recorder,
-        }
+        Core::restored(alloc, recorder, PagedTables::new(alloc))
     }
 
     /// From now on the rows of an answer take so many bytes at most, each 8 beside its own: a query whose rows take more is answered
@@ -107,13 +100,7 @@ impl<R: Recorder> Core<R> {
             None => {}
         }
         let owner = Owner::Local(conversation);
-        match commit_unit(
-            &mut self.store,
-            &mut self.units,
-            &mut self.recorder,
-            self.alloc,
-            &owner,
-        ) {
+        match commit_unit(&mut self.base, &mut self.recorder, self.alloc, &owner) {
             Ok(()) => Answer::Done,
             Err(error) => refused(error),
         }
@@ -129,7 +116,7 @@ impl<R: Recorder> Core<R> {
             Some(_) => return Answer::InGlobal,
             None => {}
         }
-        let _changes = self.units.end(&Owner::Local(conversation));
+        let _changes = self.base.units.end(&Owner::Local(conversation));
         Answer::Done
     }
 
@@ -139,8 +126,8 @@ impl<R: Recorder> Core<R> {
         ensures step { Takes R.records (state_of self.old) conversation lost (answer_of result) (state_of self.new) (recorder_of self.old) (recorder_of self.new) }
         ensures pages { PagesStay (pages_of self.old) (pages_of self.new) }
     {
-        let _changes = self.units.end(&Owner::Local(conversation));
-        end_lost(&mut self.units, self.branches.branches(), conversation);
+        let _changes = self.base.units.end(&Owner::Local(conversation));
+        end_lost(&mut self.base.units, self.branches.branches(), conversation);
         self.branches.lost(conversation);
         Answer::Done
     }
@@ -196,13 +183,12 @@ impl<R: Recorder> Core<R> {
         ensures pages { PagesStay (pages_of self.old) (pages_of self.new) }
     {
         let work = Work {
-            is_local: self.units.has_work(&Owner::Local(conversation)),
-            has_changes: self.units.has_changes(&Owner::Global(*xid)),
+            is_local: self.base.units.has_work(&Owner::Local(conversation)),
+            has_changes: self.base.units.has_changes(&Owner::Global(*xid)),
         };
         let due = self.branches.due(conversation, verb, xid, work);
         match do_due(
-            &mut self.store,
-            &mut self.units,
+            &mut self.base,
             &mut self.recorder,
             self.alloc,
             xid,

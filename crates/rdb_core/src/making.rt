@@ -9,16 +9,17 @@ ghost use Rattle.unit_records.specs.RecordContents.{said_by};
 ghost use Rattle.unit_records.specs.Together.{AreDue, FailsTogether, IsDueFor, all_changes, all_made, branches_behind, branches_for, changes_for, is_commit, is_prepare, may_make, owner_for, owner_in, record_for, records_of, units_behind};
 ghost use Rattle.core_model.specs.Units.{apply_all, unit_of, without};
 ghost use Rattle.xa_manager.specs.Due.{after, done, due_of};
+ghost use Rattle.unit_statements.specs.Base.{base_of};
 ghost use Rattle.rdb_core.specs.State.{pages_of, recorder_of, state_of};
 
 use crate::ending::make_room;
 use crate::engine::Core;
 use crate::together::{is_prepare, owner_of};
-use paged_tables::PagedTables;
 use std::alloc::{AllocError, Global};
 use tables::Change;
 use unit_records::laws::calls_go_together;
 use unit_records::{Asked, GroupCall, GroupError, Phase, RecordContents, Recorder};
+use unit_statements::Base;
 use unit_table::{Owner, Units};
 use xa_calls::Xid;
 use xa_manager::{Decision, Work, XaTable};
@@ -37,23 +38,16 @@ impl<R: Recorder> Core<R> {
     {
         calls_go_together();
         let _branches = self.branches.branches();
-        let changes = match copied_changes(&self.units, self.alloc, calls) {
+        let changes = match copied_changes(&self.base.units, self.alloc, calls) {
             Ok(changes) => changes,
             Err(AllocError) => return Err(GroupError::Refused),
         };
-        match make_room(&mut self.store, self.alloc, changes.as_slice()) {
+        match make_room(&mut self.base.tables, self.alloc, changes.as_slice()) {
             Ok(()) => {}
             Err(AllocError) => return Err(GroupError::Refused),
         }
-        let recorded = record_all(&self.units, &mut self.recorder, self.alloc, calls);
-        finish_all(
-            &mut self.store,
-            &mut self.units,
-            self.alloc,
-            calls,
-            changes,
-            recorded,
-        )?;
+        let recorded = record_all(&self.base.units, &mut self.recorder, self.alloc, calls);
+        finish_all(&mut self.base, self.alloc, calls, changes, recorded)?;
         settle_all(&mut self.branches, calls);
         Ok(())
     }
@@ -151,29 +145,27 @@ fn saying_of<'a>(units: &'a Units, conversation: u64, asked: &'a Asked) -> Recor
 // The changes, for which there is room, are made where they were recorded, and the units of the calls end, but for those
 // of branches that are prepared. Where they were not, the room is given up.
 fn finish_all(
-    store: &mut PagedTables,
-    units: &mut Units,
+    base: &mut Base,
     alloc: Global,
     calls: &[GroupCall],
     changes: Vec<Change>,
     recorded: Result<(), GroupError>,
 ) -> Result<(), GroupError>
-    requires room { IsReserved (map change_of changes.items) store.old }
+    requires room { IsReserved (map change_of changes.items) base.old.tables }
     ensures same { result ≡ recorded }
-    ensures made { OnOk recorded (store_in store.new ≡ apply_all (map change_of changes.items) (store_in store.old)) }
-    ensures ended { OnOk recorded (units.new ≡ units_behind calls.now units.old) }
-    ensures tables_stay { OnErr recorded (store_in store.new ≡ store_in store.old) }
-    ensures units_stay { OnErr recorded (units.new ≡ units.old) }
-    ensures pages { PagesStay store.old.tables store.new.tables }
+    ensures made { OnOk recorded (store_in base.new.tables ≡ apply_all (map change_of changes.items) (store_in base.old.tables)) }
+    ensures ended { OnOk recorded (base.new.units ≡ units_behind calls.now base.old.units) }
+    ensures kept { OnErr recorded (base_of base.new ≡ base_of base.old) }
+    ensures pages { PagesStay base.old.tables.tables base.new.tables.tables }
 {
     match recorded {
         Ok(()) => {
-            store.apply_reserved(alloc, changes);
-            end_all(units, calls);
+            base.tables.apply_reserved(alloc, changes);
+            end_all(&mut base.units, calls);
             Ok(())
         }
         Err(error) => {
-            store.release();
+            base.tables.release();
             Err(error)
         }
     }

@@ -18,21 +18,21 @@ use tables::Change;
 use unit_changes::UnitChanges;
 use unit_locks::Claim;
 use unit_records::Recorder;
-use unit_table::{Owner, Units};
+use unit_statements::Base;
+use unit_table::Owner;
 use xa_calls::Xid;
 use xa_manager::{Decision, RestoreError, XaTable};
 
 impl<R: Recorder> Core<R> {
     /// A core with these committed tables, without units and branches. Takes no memory.
-    pub fn restored(alloc: Global, recorder: R, store: PagedTables) -> Core<R>
-        ensures state { state_of result ≡ record { base = record { store = store_in store; units = [] }; branches = [] } }
+    pub fn restored(alloc: Global, recorder: R, tables: PagedTables) -> Core<R>
+        ensures state { state_of result ≡ record { base = record { store = store_in tables; units = [] }; branches = [] } }
         ensures recorder { recorder_of result ≡ recorder }
-        ensures pages { pages_of result ≡ store.tables }
+        ensures pages { pages_of result ≡ tables.tables }
     {
         Core {
             alloc,
-            store,
-            units: Units::new(alloc),
+            base: Base::new(alloc, tables),
             branches: XaTable::new(alloc),
             row_bytes: usize::MAX,
             recorder,
@@ -57,15 +57,15 @@ impl<R: Recorder> Core<R> {
         ensures recorder { recorder_of self.new ≡ recorder_of self.old }
         ensures pages { PagesStay (pages_of self.old) (pages_of self.new) }
     {
-        self.units.are_listed();
-        match self.units.restore(xid, changes, claims) {
+        self.base.units.are_listed();
+        match self.base.units.restore(xid, changes, claims) {
             Ok(()) => {}
             Err(AllocError) => return Err(RestoreError::NoMemory),
         }
         match self.branches.restore(&xid, outcome) {
             Ok(()) => Ok(()),
             Err(error) => {
-                let _changes = self.units.end(&Owner::Global(xid));
+                let _changes = self.base.units.end(&Owner::Global(xid));
                 Err(error)
             }
         }
@@ -86,7 +86,7 @@ impl<R: Recorder> Core<R> {
     pub fn changes_in_doubt(&self, xid: &Xid) -> &[Change]
         ensures { map change_of result.now ≡ (unit_of (global xid.now) (state_of self.now).base.units).changes }
     {
-        self.units.changes(&Owner::Global(*xid))
+        self.base.units.changes(&Owner::Global(*xid))
     }
 
     /// What the unit of a branch claims, in the order in which it first did: none where it has no work.
@@ -94,6 +94,6 @@ impl<R: Recorder> Core<R> {
     pub fn claims_in_doubt(&self, xid: &Xid) -> &[Claim]
         ensures { result.now ≡ (unit_of (global xid.now) (state_of self.now).base.units).claims }
     {
-        self.units.claims(&Owner::Global(*xid))
+        self.base.units.claims(&Owner::Global(*xid))
     }
 }

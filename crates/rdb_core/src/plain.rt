@@ -24,8 +24,8 @@ impl<R: Recorder + Source> Core<R> {
         PlainState::of(
             &mut self.recorder,
             self.alloc,
-            &self.store,
-            &self.units,
+            &self.base.tables,
+            &self.base.units,
             &self.branches,
         )
     }

@@ -8,14 +8,12 @@ ghost use Rattle.unit_records.specs.Due.{record_due};
 ghost use Rattle.core_calls.specs.Answer.{answer_of};
 ghost use Rattle.core_calls.specs.Call.{call_of, describe, query, run};
 ghost use Rattle.core_model.specs.Asked.{unfit};
-ghost use Rattle.rdb_core.specs.Looks.{IsClashing, StepsOver};
-ghost use Rattle.rdb_core.specs.Question.{call_asking, question_of};
+ghost use Rattle.unit_statements.specs.Question.{question_of};
+ghost use Rattle.rdb_core.specs.Looks.{IsClashing, StepsOver, call_asking};
 ghost use Rattle.rdb_core.specs.State.{pages_of, recorder_of, state_of};
 ghost use Rattle.rdb_core.specs.Steps.{Steps, Takes, is_fit, may_want_any};
 
-use crate::asking::{ask_description, ask_unit};
 use crate::engine::Core;
-use crate::question::{Question, unfit, unfit_to_describe};
 use crate::refusing::unread;
 use ahead_view::Source;
 use core_calls::{Answer, CoreCall, Refusal, Side};
@@ -23,6 +21,7 @@ use row_values::Value;
 use sql_text::Statement;
 use std::alloc::AllocError;
 use unit_records::Recorder;
+use unit_statements::{Question, QuestionKind, unfit, unfit_to_describe};
 
 impl<R: Recorder + Source> Core<R> {
     /// What a conversation asks is answered, and the core takes one step. What is committed, prepared,
@@ -77,7 +76,8 @@ impl<R: Recorder + Source> Core<R> {
     {
         self.ask(
             conversation,
-            Question::Running {
+            Question {
+                kind: QuestionKind::Run,
                 statement,
                 parameters,
             },
@@ -101,7 +101,8 @@ impl<R: Recorder + Source> Core<R> {
     {
         self.ask(
             conversation,
-            Question::Querying {
+            Question {
+                kind: QuestionKind::Query,
                 statement,
                 parameters,
             },
@@ -121,9 +122,7 @@ impl<R: Recorder + Source> Core<R> {
             None => {}
         }
         let owner = self.owner(conversation);
-        match ask_unit(
-            &self.store,
-            &mut self.units,
+        match self.base.ask(
             &mut self.recorder,
             self.alloc,
             self.row_bytes,
@@ -149,14 +148,7 @@ impl<R: Recorder> Core<R> {
             None => {}
         }
         let owner = self.owner(conversation);
-        match ask_description(
-            &self.store,
-            &mut self.units,
-            self.alloc,
-            &owner,
-            statement,
-            side,
-        ) {
+        match self.base.describe(self.alloc, &owner, statement, side) {
             Ok(answer) => answer,
             Err(AllocError) => Answer::NoMemory,
         }

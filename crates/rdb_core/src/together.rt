@@ -55,7 +55,7 @@ impl<R: Recorder> Core<R> {
         match asked {
             Asked::Commit => {
                 self.branches.joined(conversation).is_none()
-                    && self.units.has_changes(&Owner::Local(conversation))
+                    && self.base.units.has_changes(&Owner::Local(conversation))
             }
             Asked::Through(phase, xid) => self.stands_for(*phase, xid),
         }
@@ -67,7 +67,7 @@ impl<R: Recorder> Core<R> {
     {
         match (phase, self.branches.state(xid)) {
             (Phase::Prepare, Some(BranchState::Idle(_))) => {
-                self.units.has_changes(&Owner::Global(*xid))
+                self.base.units.has_changes(&Owner::Global(*xid))
             }
             (Phase::Decide(_), Some(BranchState::Prepared)) => true,
             _ => false,

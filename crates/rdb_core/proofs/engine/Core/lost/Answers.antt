@@ -13,11 +13,11 @@ pub returns : goal.returns
 returns g c =
     let n = c.args.conversation in
     let old = c.args.self.now in
-    let s = store_in old.store in
+    let s = store_in old.base.tables in
     let xs = lost_xids old.branches n in
-    let units : c.end_lost.new.units ≡ left_units xs (without (local n) old.units) =
+    let units : c.end_lost.new.units ≡ left_units xs (without (local n) old.base.units) =
     c.end_lost.ensures
     ∙ ap (λ (bs : List Branch). left_units (lost_xids bs n) c.end-changes.new.self) c.branches.ensures.all
     ∙ ap (λ (us : List Held). left_units xs us) c.end-changes.ensures.ended in
-    let base = ap (λ (us : List Held). let b : Base = record { store = s; units = us } in b) units ∙ sym (as_events xs s (without (local n) old.units)) in
-    record { step = record { taken = record { answer_is = refl; state = λ j. record { base = base j; branches = c.lost.ensures j } }; recorded = refl }; pages = pages_rest old.store.tables }
+    let base = ap (λ (us : List Held). let b : Base = record { store = s; units = us } in b) units ∙ sym (as_events xs s (without (local n) old.base.units)) in
+    record { step = record { taken = record { answer_is = refl; state = λ j. record { base = base j; branches = c.lost.ensures j } }; recorded = refl }; pages = pages_rest old.base.tables.tables }

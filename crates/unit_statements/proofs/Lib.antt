@@ -1,0 +1,4 @@
+pub mod Claimed
+pub mod Questions
+pub mod Standing
+mod Wanting

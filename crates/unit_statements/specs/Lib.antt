@@ -1,0 +1,5 @@
+pub mod Base
+pub mod Question
+pub mod Sight
+pub mod Found
+pub mod Given
