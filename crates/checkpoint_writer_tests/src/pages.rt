@@ -65,7 +65,7 @@ pub fn rows_of(alloc: Global, changes: &str) -> Result<OrderedRows, AllocError> 
 fn read<D: Disk>(alloc: Global, pager: &mut Pager<D>, run: Run) -> Result<Rows, PageFault> {
     let table = table_with(alloc, pager, run, "")?;
     let mut rows = Rows::new(alloc);
-    table.scan_into(alloc, &FirstByte, pager, &mut rows)?;
+    table.scan_judged(alloc, &FirstByte, pager, None, &mut rows)?;
     Ok(rows)
 }
 

@@ -11,7 +11,3 @@ has_past (suc n) bytes row rest some e = let one : suc n - 1 ≡ n = omega arith
 pub behind_past : (n : ℕ) (bytes row rest : List ℕ) → 0 < n → row_at bytes ≡ Some (row, rest) → behind_rows n bytes ≡ behind_rows (n - 1) rest
 behind_past zero bytes row rest some e = absurd (omega arith)
 behind_past (suc n) bytes row rest some e = let one : suc n - 1 ≡ n = omega arith in rw one (ap (λ o. rest_of o bytes (behind_rows n)) e)
-
-pub has_not : (n : ℕ) (bytes : List ℕ) → 0 < n → row_at bytes ≡ None → has_rows n bytes ≡ false
-has_not zero bytes some e = absurd (omega arith)
-has_not (suc n) bytes some e = ap (λ o. has_behind o (has_rows n)) e

@@ -20,6 +20,6 @@ pub use cursor::RowCursor;
 pub use keys::RowKeys;
 pub use laws::stored_tables_are_whole;
 pub use noted::{ListedRows, NotedPages, NotedRows};
-pub use pages::TablePages;
+pub use pages::{JudgedRow, TablePages};
 pub use schema_keys::SchemaKeys;
 pub use table::TableMap;

@@ -15,7 +15,7 @@ pub returns-in-Some-Some-clause-found : goal.returns-in-Some-Some-clause-found
 returns-in-Some-Some-clause-found g c pages honest is =
     let base = keyed_rows (g.K.RowKeys.key_of c.args.keys.now) (rows_over pages) in
     let word = rw c.in-Some-Some.field-0-is at c.in-Some-Some.ensures in
-    subst (λ (o : Option (List ℕ)). IfOk c.copy_row.result (λ row. copied row ≡ o))
+    subst (λ (o : Option (List ℕ)). IfOk c.copy_row.result (λ found. copied found.row ≡ o))
     (told c.args.key.now base (changes_of c.args.self.now.overlay) (Some (Some c.in-Some-Some.row.now)) is.order (word ∙ ap (λ (t : Table). row_at c.args.key.now (changes_of t.overlay)) c.self.view_is))
     (rw c.in-Some-Some.field-0-is at c.copy_row.ensures.row)
 
@@ -30,7 +30,7 @@ returns-in-None-clause-found g c pages honest is =
     let key_of = g.K.RowKeys.key_of c.args.keys.now in
     let base = keyed_rows key_of (rows_over pages) in
     let stored = subst (λ (p : Places). IsStored key_of p pages (g.D.Disk.life c.args.pager.now).seen) (sym (ap (λ (t : Table). t.places) c.self.view_is)) is in
-    subst (λ (o : Option (List ℕ)). IfOk c.row.result (λ row. copied row ≡ o))
+    subst (λ (o : Option (List ℕ)). IfOk c.row.result (λ found. copied found.row ≡ o))
     (told c.args.key.now base (changes_of c.args.self.now.overlay) None is.order (c.in-None.ensures ∙ ap (λ (t : Table). row_at c.args.key.now (changes_of t.overlay)) c.self.view_is))
     (c.row.ensures.found pages honest stored)
 
