@@ -1,6 +1,6 @@
 -- Rows that pages have given and that were judged, with a table's changes among them, are rows of its schema in order.
 use Rattle.std.proofs.Common.{◌≡◌, ℕ, List, [], ◌∷◌, ◌++◌, Bool, true, false, refl, sym, ap, subst, ◌∙◌, map, Option, Some, None, cond, Ordering, Less, Equal, Greater, inl, inr}
-use Rattle.std.specs.Prelude.{Result, Ok, Err, IfOk, IfSome, IsTrue, bytes_eq}
+use Rattle.std.specs.Prelude.{Ok, Err, IfOk, IfSome, IsTrue, bytes_eq}
 use Rattle.std.specs.Global.{Vec}
 use Rattle.std.specs.List.{AllByRecursion, list_all}
 use Rattle.std.specs.List.Sorted.{IsStrictlySortedBy}
@@ -16,14 +16,13 @@ use Rattle.key_map.specs.RowForm.{row_form}
 use Rattle.key_map.specs.Slots.{by_bytes, by_key}
 use Rattle.key_map.proofs.Merged.{merged_found, merged_order}
 use Rattle.row_pages.specs.Judging.{AreJudged, do_rise}
-use Rattle.row_pages.specs.declared.kept.PageFault.{PageFault}
 use Rattle.row_values.specs.Schema.{Schema, is_schema}
 use Rattle.row_values.specs.Row.{is_row}
 use Rattle.row_values.specs.Key.{key_cmp, row_key}
 use Rattle.row_values.proofs.ValueLaws.{both_true, first_true, second_true}
 use Rattle.table_map.specs.Judged.{IsKnown, IsScanned, RiseByKeys}
 use Rattle.table_map.specs.Keyed.{copied, keyed_rows}
-use Rattle.table_map.specs.declared.pages.JudgedRow.{JudgedRow}
+use Rattle.table_map.proofs.Knowing.{Found, KnownSo}
 use Rattle.table_map.specs.Table.{without_keys}
 use Rattle.tables.specs.Tables.{is_row_at}
 use Rattle.tables.proofs.Keeping.{less_is}
@@ -183,21 +182,6 @@ row_may schema key form one row at =
     (sym (alike schema key (row_key schema row) form form one at.key) ∙ ap is_eq (tied_itself nat_list_cmp_total form))
 
 -- ---- where it was found
-
-abbrev pub Found : Type 0
-Found = Result JudgedRow PageFault
-
--- where a row that was found is known, it is so
-abbrev pub KnownSo : (List ℕ → Type 0) → Found → Type 0
-KnownSo P found = IfOk found (λ f. IsTrue f.is_judged → IfSome f.row (λ row. P row.items))
-
-some_so : (P Q : List ℕ → Type 0) → ((row : List ℕ) → P row → Q row) → (o : Option (Vec ℕ)) → IfSome o (λ row. P row.items) → IfSome o (λ row. Q row.items)
-some_so P Q f None is = tt
-some_so P Q f (Some row) is = f row.items is
-
-pub known_so : (P Q : List ℕ → Type 0) → ((row : List ℕ) → P row → Q row) → (found : Found) → KnownSo P found → KnownSo Q found
-known_so P Q f (Ok x) is = λ judged. some_so P Q f x.row (is judged)
-known_so P Q f (Err e) is = tt
 
 some_may : (schema : Schema) (key form : List ℕ) → IsFormOf schema key form → (o : Option (Vec ℕ)) → IfSome o (λ row. IsRowAt schema row.items form) → may_be_row (Some schema) (copied o) key ≡ true
 some_may schema key form one None is = refl

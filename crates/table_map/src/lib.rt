@@ -8,7 +8,6 @@ mod finding;
 mod keys;
 mod laws;
 mod noted;
-mod opening;
 mod page_scan;
 mod pages;
 mod room;

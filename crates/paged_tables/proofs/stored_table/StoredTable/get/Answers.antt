@@ -2,9 +2,10 @@
 use Rattle.std.proofs.Common.{◌≡◌, ℕ, List, IfOk, Option, ap, subst, ◌∙◌}
 use Rattle.key_map.specs.Merging.{row_at}
 use Rattle.table_map.specs.Keyed.{copied}
+use Rattle.table_map.proofs.Knowing.{KnownSo}
 use Rattle.paged_tables.specs.Stored.{IsRowAt, IsStored, Stored, rows_in}
 use Rattle.paged_tables.proofs.FormLaws.{found_at, not_found_at}
-use Rattle.paged_tables.proofs.Scanned.{KnownSo, known_may}
+use Rattle.paged_tables.proofs.Scanned.{known_may}
 use Rattle.paged_tables.proofs.Shown.{form_nowhere, form_there}
 use Rattle.paged_tables.proofs.stored_table.StoredTable.get.Goals as goal
 

@@ -7,9 +7,10 @@ use Rattle.key_map.specs.Overlay.{changes_of}
 use Rattle.row_values.specs.Schema.{Schema, is_schema}
 use Rattle.table_map.specs.Judged.{IsKnown}
 use Rattle.table_map.specs.Keyed.{copied, keyed_rows}
+use Rattle.table_map.proofs.Knowing.{KnownSo, known_so}
 use Rattle.paged_tables.specs.Stored.{IsRowAt, Stored}
 use Rattle.paged_tables.proofs.Reading.{read_there}
-use Rattle.paged_tables.proofs.Scanned.{KnownSo, known_row, known_so}
+use Rattle.paged_tables.proofs.Scanned.{known_row}
 use Rattle.paged_tables.proofs.stored_table.StoredTable.row_at.Goals as goal
 
 pub returns-clause-found : goal.returns-clause-found
