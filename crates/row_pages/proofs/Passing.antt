@@ -1,6 +1,6 @@
 -- The rows in front of bytes, one after another.
-use Rattle.std.proofs.Common.{◌≡◌, ℕ, zero, suc, ◌-◌, ◌<◌, List, false, ap, arith}
-use Rattle.std.specs.Prelude.{Some, None}
+use Rattle.std.proofs.Common.{◌≡◌, ℕ, zero, suc, ◌-◌, ◌<◌, List, ap, arith}
+use Rattle.std.specs.Prelude.{Some}
 use Rattle.row_pages.specs.Reading.{row_at, has_rows, has_behind, rest_of, behind_rows}
 
 -- past the first row
