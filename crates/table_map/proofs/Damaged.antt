@@ -1,5 +1,5 @@
 -- Where damage is told.
-use Rattle.std.proofs.Common.{◌≡◌, ℕ, zero, suc, ◌+◌, ◌-◌, ◌*◌, ◌<◌, ◌≤◌, List, [], ◌∷◌, length, get_or, None, ap, ◌∙◌, subst, arith}
+use Rattle.std.proofs.Common.{◌≡◌, ℕ, zero, suc, ◌+◌, ◌-◌, ◌*◌, ◌<◌, ◌≤◌, List, [], ◌∷◌, length, get_or, ap, ◌∙◌, subst, arith}
 use Rattle.std.specs.Prelude.{Result, Ok, Err, IfErr}
 use Rattle.std.specs.List.{AllByRecursion}
 use Rattle.drda_words.specs.Place.{part}
@@ -10,7 +10,6 @@ use Rattle.row_pages.specs.declared.kept.PageFault.{PageFault}
 use Rattle.row_pages.specs.declared.kept.PageFault.TheVariants.{NoMemory, DeviceFailed, Damaged}
 use Rattle.row_pages.proofs.PageBytes.{one_page}
 use Rattle.table_map.specs.Damage.{DamagedWhere, HasNoRows, IsNoPage, SomePage, StoredHasPage, StoredIsWhole}
-use Rattle.table_map.specs.Keyed.{first_of}
 use Rattle.table_map.proofs.Found.{page_there}
 use Rattle.table_map.proofs.Opened.{many_first}
 

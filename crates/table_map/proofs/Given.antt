@@ -1,10 +1,8 @@
 -- How far a cursor has come.
-use Rattle.std.proofs.Common.{◌≡◌, ℕ, List, [], ◌∷◌, ◌++◌, length, map, sym, ap, subst, ◌∙◌, append_assoc, append-nil}
-use Rattle.std.specs.Global.{Vec}
+use Rattle.std.proofs.Common.{◌≡◌, ℕ, List, [], ◌∷◌, length, sym, ap, subst, ◌∙◌}
 use Rattle.std.specs.List.{AllByRecursion}
 use Rattle.row_pages.specs.Laying.{Count, IsShort, counted, laid, pages_with}
 use Rattle.key_map.specs.Merging.{Rows}
-use Rattle.std.proofs.lemmas.List.{map-append}
 use Rattle.table_map.specs.Table.{without_keys}
 use Rattle.table_map.specs.Cursor.{IsLeft, GoesOn}
 use Rattle.table_map.specs.declared.cursor.RowCursor.{RowCursor}
