@@ -14,8 +14,7 @@ use Rattle.tables.proofs.Finding.{same_bytes}
 use Rattle.tables.proofs.Keeping.{parts}
 use Rattle.tables.proofs.Showing.{GoodTable}
 use Rattle.row_pages.specs.Judging.{do_rise}
-use Rattle.paged_tables.specs.Judged.{may_be_rows}
-use Rattle.ahead_view.specs.Judging.{may_be_row}
+use Rattle.paged_tables.specs.Judged.{may_be_row, may_be_rows}
 
 rows_are : (schema : Schema) (es : List (List ℕ × List ℕ)) → list_all (is_entry schema) es ≡ true → list_all (is_row schema) (values_of es) ≡ true
 rows_are schema [] all = refl

@@ -20,9 +20,9 @@ use Rattle.tables.proofs.Finding.{indeed, itself, same_bytes}
 use Rattle.tables.proofs.Found.{found_are_rows}
 use Rattle.tables.proofs.Keeping.{apply_keeps, named_table, same_keys}
 use Rattle.tables.proofs.Showing.{good_table, same_stores}
+use Rattle.paged_tables.specs.Judged.{may_be_row}
 use Rattle.ahead_view.specs.Ahead.{WasRead, may_be_read}
 use Rattle.ahead_view.specs.Given.{IsAhead, StandsFor, given_by, with_row, with_rows}
-use Rattle.ahead_view.specs.Judging.{may_be_row}
 use Rattle.ahead_view.specs.declared.reading.ReadAhead.{ReadAhead}
 use Rattle.ahead_view.specs.declared.reading.ReadAhead.TheVariants.{Nothing, Row, Rows}
 use Rattle.ahead_view.proofs.MayBe.{row_may_be, rows_may_be}

@@ -2,8 +2,7 @@
 use Rattle.std.specs.Prelude.{◌≡◌, ◌&&◌, ℕ, Bool, List, bytes_eq, false, true}
 use Rattle.table_map.specs.Keyed.{copied}
 use Rattle.tables.specs.Tables.{Store, row_of, rows_of, schema_of}
-use Rattle.paged_tables.specs.Judged.{may_be_rows}
-use Rattle.ahead_view.specs.Judging.{may_be_row}
+use Rattle.paged_tables.specs.Judged.{may_be_row, may_be_rows}
 use Rattle.ahead_view.specs.declared.reading.ReadAhead.{ReadAhead}
 use Rattle.ahead_view.specs.declared.reading.ReadAhead.TheVariants.{Nothing, Row, Rows}
 

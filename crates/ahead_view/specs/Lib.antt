@@ -1,4 +1,3 @@
 pub mod Ahead
 pub mod Given
-pub mod Judging
 pub mod Source

@@ -13,6 +13,7 @@ use crate::source::{ReadError, Source};
 use paged_tables::{JudgedRows, PagedTables};
 use std::alloc::{AllocError, Global};
 use std::mem;
+use table_map::JudgedRow;
 use tables::Rows;
 
 /// What a statement is going to ask for.
@@ -94,10 +95,10 @@ fn read_unjudged<'a, S: Source>(
             is_judged: true,
         }),
         Wanted::Row { table, key } => {
-            let row = source.row(alloc, tables, table, key)?;
+            let JudgedRow { row, is_judged } = source.row(alloc, tables, table, key)?;
             Ok(Reading {
                 read: ReadAhead::Row { table, key, row },
-                is_judged: false,
+                is_judged,
             })
         }
         Wanted::Rows { table } => {

@@ -4,12 +4,13 @@ ghost use Rattle.std.specs.Prelude.{◌≡◌, Bool, IfOk, IsTrue, false, true};
 ghost use Rattle.table_map.specs.Keyed.{copied};
 ghost use Rattle.tables.specs.Tables.{row_of, rows_of, schema_of};
 ghost use Rattle.ahead_view.specs.Source.{LeavesReader};
-ghost use Rattle.paged_tables.specs.Judged.{may_be_rows};
+ghost use Rattle.paged_tables.specs.Judged.{may_be_row, may_be_rows};
 ghost use Rattle.paged_tables.specs.PagedTables.{store_in};
 ghost use Rattle.paged_tables.specs.TablesByName.{Tables};
 
 use paged_tables::{JudgedRows, PagedTables};
 use std::alloc::{AllocError, Global};
+use table_map::JudgedRow;
 use thiserror::Error;
 
 /// Why no rows were read.
@@ -48,17 +49,18 @@ pub trait Source {
 
     ghost fails_to_read: { Self → Self → Type 0 };
 
-    /// The row of this key in the table of a name, in new memory. Without a table, and for bytes that
-    /// are no key of it, there is none.
+    /// The row of this key in the table of a name, in new memory, and whether it is known that it may be
+    /// that of the table. Without a table, and for bytes that are no key of it, there is none.
     fn row(
         &mut self,
         alloc: Global,
         tables: &PagedTables,
         table: &str,
         key: &[u8],
-    ) -> Result<Option<Vec<u8>>, ReadError>
+    ) -> Result<JudgedRow, ReadError>
         requires { holds self.old tables.now.tables }
-        ensures found { IsTrue is_told → IfOk result (λ row. copied row ≡ row_of (store_in tables.now) table.now key.now) }
+        ensures found { IsTrue is_told → IfOk result (λ found. copied found.row ≡ row_of (store_in tables.now) table.now key.now) }
+        ensures judged { IfOk result (λ found. IsTrue found.is_judged → may_be_row (schema_of (store_in tables.now) table.now) (copied found.row) key.now ≡ true) }
         ensures read { LeavesReader reads fails_to_read self.old result self.new };
 
     /// All rows of the table of a name, in the order of their keys, in new memory, and whether it is known

@@ -99,11 +99,6 @@ module _ (modelled : Bool) (file : List ℕ) (start : ℕ) (image : ImageWriter)
       ∙ keys_append key_of (held.full ++ page ∷ []) ((row ∷ []) ∷ [])
       ∙ ap (λ (l : List (List (List ℕ))). first_keys key_of l ++ key_of row ∷ []) (ap (λ (l : List (List (List ℕ))). held.full ++ l) (sym (some_ended page row short past)) ∙ sym so_far)
 
-  pub no_room : {T : Type 0} (result : Result T ImageError) (end : ℕ) (row : List ℕ) (rest : List (List ℕ)) → fits (page ++ row ∷ []) ≡ false → TellsFull result end (next_of image + 8192) → TellsFull result end (start + 8192 * length (laid (rows ++ row ∷ rest)))
-  no_room result end row rest past tells =
-      tells_more result end (next_of image + 8192) (start + 8192 * length (laid (rows ++ row ∷ rest)))
-      (omega (arith, held.next, ap length (next_page row rest past), length-append (held.full ++ page ∷ []) (laid_behind (row ∷ []) rest), length-append held.full (page ∷ []))) tells
-
   -- what stands where a page was written behind the others
   page_stands : (new : List ℕ) (n : ℕ) (bytes : List ℕ) → Torn (next_of image) n file new → IsPage writer.page bytes → (IsTrue modelled → part new (next_of image) 8192 ≡ bytes) → IsTrue modelled → StandAt writer.page.kind new start (held.full ++ page ∷ [])
   page_stands new n bytes torn is written honest =

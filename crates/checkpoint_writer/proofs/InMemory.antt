@@ -25,10 +25,6 @@ use Rattle.checkpoint_writer.proofs.Told.{all_behind}
 
 -- ---- rows under their keys
 
-keyed-append : (key_of : List ℕ → List ℕ) (a b : List (List ℕ)) → keyed_rows key_of (a ++ b) ≡ keyed_rows key_of a ++ keyed_rows key_of b
-keyed-append key_of [] b = refl
-keyed-append key_of (r ∷ a) b = ap (λ (l : Rows). (key_of r, r) ∷ l) (keyed-append key_of a b)
-
 head_same : (x y : List ℕ × List ℕ) (xs ys : Rows) → x ∷ xs ≡ y ∷ ys → x ≡ y
 head_same x y xs ys e = cc
 

@@ -82,7 +82,3 @@ module _ (modelled : Bool) (file : List ℕ) (start : ℕ) (image : ImageWriter)
 
   pub all_listed : left ≡ [] → held.rows ≡ rows_of all
   all_listed none = sym (append-nil held.rows) ∙ ap (λ (es : List Entry). held.rows ++ rows_of es) (sym none) ∙ held.same
-
-  pub all_stand : (new : List ℕ) → left ≡ [] → StandAt writer.page.kind new start (laid held.rows) → StandAt kind.Catalogue new start (laid (rows_of all))
-  all_stand new none stand =
-      subst (λ (k : PageKind). StandAt k new start (laid (rows_of all))) held.kind (subst (λ (l : List (List ℕ)). StandAt writer.page.kind new start (laid l)) (all_listed none) stand)

@@ -8,6 +8,7 @@ use drda_disk::Disk;
 use paged_tables::{JudgedRows, PagedTables};
 use row_pages::PageFault;
 use std::alloc::Global;
+use table_map::JudgedRow;
 
 /// How many pages a recorder keeps at most.
 pub const CACHED_PAGES: usize = 64;
@@ -34,7 +35,7 @@ impl<D: Disk> Source for DiskRecorder<D> {
         tables: &PagedTables,
         table: &str,
         key: &[u8],
-    ) -> Result<Option<Vec<u8>>, ReadError> {
+    ) -> Result<JudgedRow, ReadError> {
         if self.is_failed {
             return Err(ReadError::DeviceFailed);
         }

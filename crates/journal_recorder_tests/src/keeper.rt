@@ -122,7 +122,7 @@ impl<D: Disk> Keeper<D> {
     /// The row of a key.
     pub fn row(&mut self, table: &str, key: &[u8]) -> Result<Option<Vec<u8>>, ReadError> {
         match self.recorder.row(self.alloc, &self.tables, table, key) {
-            Ok(row) => Ok(row),
+            Ok(found) => Ok(found.row),
             Err(ReadError::NoMemory) => Err(ReadError::NoMemory),
             Err(ReadError::DeviceFailed) => Err(ReadError::DeviceFailed),
         }

@@ -35,16 +35,7 @@ module _ (modelled : Bool) (old mid : Life) (stays : Stays old mid) (store : Ope
     is_still : (c : List ℕ) → Now old c → IsOld old.seen store c
     is_still c now = subst (λ (image : List ℕ). IsOld old.seen store image) (sym (rests.durable c now)) as_it_was
 
-    pub goes_on_still : GoesOn mid old.seen store
-    goes_on_still = record {
-      durable = Only-stays old mid stays rests.durable;
-      is = subst (λ (image : List ℕ). IsOld old.seen store image) (sym stays.same) as_it_was;
-    }
-
     module _ (tables : Store) (es : List Entry) (held : ℕ) where
-      pub leaves_still : LeavesOnly old mid (Moment old.seen store tables es held)
-      leaves_still = stays_leaves old mid (Moment old.seen store tables es held) stays (λ c now. inl (is_still c now))
-
       pub leaves_then : (new : Life) → LeavesOnly mid new (Moment mid.seen store tables es held) → LeavesOnly old new (Moment old.seen store tables es held)
       leaves_then new leaves =
           stays_and old mid new (Moment old.seen store tables es held) stays

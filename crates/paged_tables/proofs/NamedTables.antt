@@ -270,9 +270,6 @@ grows_set q s t u at keeps more = record {
   pages = pages_set q s t u at keeps;
 }
 
-pub grows_itself : (s : Tables) → Grows s s
-grows_itself s = record { rooms = λ name form room. room; schemas = λ name schema is. is; pages = pages_stay_themselves s }
-
 ready_rooms : (b : Bool) (t : Stored) (o : Option Stored) (form : List ℕ) → (b ≡ true → o ≡ None) → HasRoom form (slots_in o) → HasRoom form (slots_in (cond b (Some t) o))
 ready_rooms true t o form none room = absurd (no_room form (subst (λ (x : Option Stored). HasRoom form (slots_in x)) (none refl) room))
   where

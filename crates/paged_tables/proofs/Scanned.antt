@@ -1,5 +1,7 @@
 -- Rows that pages have given and that were judged, with a table's changes among them, are rows of its schema in order.
-use Rattle.std.proofs.Common.{◌≡◌, ℕ, List, [], ◌∷◌, ◌++◌, Bool, true, false, refl, sym, ap, subst, ◌∙◌, map, Option, Some, None, cond, Ordering, Less, Equal, Greater}
+use Rattle.std.proofs.Common.{◌≡◌, ℕ, List, [], ◌∷◌, ◌++◌, Bool, true, false, refl, sym, ap, subst, ◌∙◌, map, Option, Some, None, cond, Ordering, Less, Equal, Greater, inl, inr}
+use Rattle.std.specs.Prelude.{Ok, Err, IfOk, IfSome, IsTrue, bytes_eq}
+use Rattle.std.specs.Global.{Vec}
 use Rattle.std.specs.List.{AllByRecursion, list_all}
 use Rattle.std.specs.List.Sorted.{IsStrictlySortedBy}
 use Rattle.std.specs.Map.{keys_of}
@@ -18,13 +20,16 @@ use Rattle.row_values.specs.Schema.{Schema, is_schema}
 use Rattle.row_values.specs.Row.{is_row}
 use Rattle.row_values.specs.Key.{key_cmp, row_key}
 use Rattle.row_values.proofs.ValueLaws.{both_true, first_true, second_true}
-use Rattle.table_map.specs.Judged.{IsScanned, RiseByKeys}
-use Rattle.table_map.specs.Keyed.{keyed_rows}
+use Rattle.table_map.specs.Judged.{IsKnown, IsScanned, RiseByKeys}
+use Rattle.table_map.specs.Keyed.{copied, keyed_rows}
+use Rattle.table_map.proofs.Knowing.{Found, KnownSo}
 use Rattle.table_map.specs.Table.{without_keys}
+use Rattle.tables.specs.Tables.{is_row_at}
 use Rattle.tables.proofs.Keeping.{less_is}
+use Rattle.paged_tables.specs.Judged.{may_be_row}
 use Rattle.paged_tables.specs.Laws.{RowsHaveForms}
-use Rattle.paged_tables.specs.Stored.{HaveForms, IsRowAt, IsStored, Stored, at_keys, rows_in}
-use Rattle.paged_tables.proofs.FormLaws.{agree}
+use Rattle.paged_tables.specs.Stored.{HaveForms, IsFormOf, IsRowAt, IsStored, Stored, at_keys, rows_in}
+use Rattle.paged_tables.proofs.FormLaws.{agree, alike}
 use Rattle.paged_tables.proofs.Opened.{rises_good}
 
 -- ---- rows that were judged
@@ -160,3 +165,28 @@ scanned_rise law t is good rows so =
     let all = law t.schema so.base good so.bytes (each_row (is_row t.schema) so.base so.rows) in
     let merged_all = forms_merged t.schema base (changes_of t.changes) all (changes_put t is so.rising) in
     ap (do_rise t.schema) so.same ∙ rows_rise t.schema (merged base (changes_of t.changes)) merged_all (merged_order base (changes_of t.changes) so.order)
+
+-- ---- one row
+
+-- what is known of a row that was found: it stands at its form
+pub known_row : RowsHaveForms → (t : Stored) → IsStored t → is_schema t.schema ≡ true → (q row : List ℕ) → IsKnown (row_form t.schema) t.schema q (changes_of t.changes) row → IsRowAt t.schema row q
+known_row law t is good q row (inl put) =
+    found_form t.schema q (rows_in t) row is.forms (merged_found q t.base (changes_of t.changes) is.order ∙ ap (λ w. over w (row_at q t.base)) put)
+known_row law t is good q row (inr of) =
+    subst (λ (f : List ℕ). IsRowAt t.schema row f) (sym (exact_bytes q (row_form t.schema row) of.same)) (law t.schema (row ∷ []) good (of.bytes, tt) (of.good, tt)).0
+
+-- and so is the one at the key of that form
+row_may : (schema : Schema) (key form : List ℕ) → IsFormOf schema key form → (row : List ℕ) → IsRowAt schema row form → is_row_at (Some schema) row key ≡ true
+row_may schema key form one row at =
+    both_true (is_row schema row) (bytes_eq key (row_key schema row)) at.good
+    (sym (alike schema key (row_key schema row) form form one at.key) ∙ ap is_eq (tied_itself nat_list_cmp_total form))
+
+-- ---- where it was found
+
+some_may : (schema : Schema) (key form : List ℕ) → IsFormOf schema key form → (o : Option (Vec ℕ)) → IfSome o (λ row. IsRowAt schema row.items form) → may_be_row (Some schema) (copied o) key ≡ true
+some_may schema key form one None is = refl
+some_may schema key form one (Some row) is = row_may schema key form one row.items is
+
+pub known_may : (schema : Schema) (key form : List ℕ) → IsFormOf schema key form → (found : Found) → KnownSo (λ row. IsRowAt schema row form) found → IfOk found (λ f. IsTrue f.is_judged → may_be_row (Some schema) (copied f.row) key ≡ true)
+known_may schema key form one (Ok x) is = λ judged. some_may schema key form one x.row (is judged)
+known_may schema key form one (Err e) is = tt

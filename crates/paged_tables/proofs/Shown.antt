@@ -49,10 +49,6 @@ pub put_created : (schema : Schema) (b : Bool) (old new : Rows) (row form : List
 put_created schema true old new row form here one all is = put_shown schema old new row form one all is
 put_created schema false old new row form here one all is = absurd cc
 
-pub created_shown : (schema : Schema) (b : Bool) (rows : Rows) → (b ≡ false → rows ≡ []) → show schema true rows ≡ Some (unwrap_or (show schema b rows) (record { schema = schema; rows = [] }))
-created_shown schema true rows none = refl
-created_shown schema false rows none = ap (λ l. Some (record { schema = schema; rows = at_keys schema l })) (none refl)
-
 -- what is asked of a table that is created
 pub row_there : (s t : Stored) (row form : List ℕ) → s ≡ t → s.is_created ≡ true → (t.is_created ≡ true → IsRowAt t.schema row form) → IsRowAt s.schema row form
 row_there s t row form same here one = subst (λ (u : Stored). IsRowAt u.schema row form) (sym same) (one (sym (ap (λ (u : Stored). u.is_created) same) ∙ here))

@@ -10,7 +10,7 @@ ghost use Rattle.table_map.specs.Damage.{DamagedWhere};
 ghost use Rattle.table_map.specs.Keyed.{copied};
 ghost use Rattle.tables.specs.Tables.{row_of, rows_of, schema_of};
 ghost use Rattle.tables.specs.View.{is_store};
-ghost use Rattle.paged_tables.specs.Judged.{may_be_rows};
+ghost use Rattle.paged_tables.specs.Judged.{may_be_row, may_be_rows};
 ghost use Rattle.paged_tables.specs.Stored.{AreRowsOf, IsOnPages, LiesInside, LiesOutside, opened, table_in};
 ghost use Rattle.tables.specs.Applied.{apply_all};
 ghost use Rattle.tables.specs.ChangeView.{change_of};
@@ -24,7 +24,7 @@ use row_pages::{PageFault, Pager};
 use row_values::Schema;
 use std::alloc::{AllocError, Global};
 use std::sync::Arc;
-use table_map::{NotedPages, TablePages};
+use table_map::{JudgedRow, NotedPages, TablePages};
 use tables::{Change, Rows};
 
 /// The committed tables, with rows in the order of their keys: those of their pages, with the changes
@@ -70,25 +70,30 @@ impl PagedTables {
         }
     }
 
-    /// The row of this key in the table of a name, in new memory. A key that was changed is looked up
-    /// in the changes alone; else one page is looked at, at most. Without a table, and for bytes that are
-    /// no key of it, there is no row, and nothing is read.
+    /// The row of this key in the table of a name, and whether it is known, whatever the device, that it may
+    /// be that: a row of the table's schema at the key. A key that was changed is looked up in the changes
+    /// alone; else one page is looked at, at most. Without a table, and for bytes that are no key of it,
+    /// there is no row, and nothing is read.
     pub fn row<D: Disk>(
         &self,
         alloc: Global,
         pager: &mut Pager<D>,
         table: &str,
         key: &[u8],
-    ) -> Result<Option<Vec<u8>>, PageFault>
+    ) -> Result<JudgedRow, PageFault>
         requires { LieInside (length (D.life pager.old).seen) self.now.tables }
-        ensures found { IsTrue D.is_modelled → AreOnPages (D.life pager.old).seen self.now.tables → IfOk result (λ row. copied row ≡ row_of (store_in self.now) table.now key.now) }
+        ensures found { IsTrue D.is_modelled → AreOnPages (D.life pager.old).seen self.now.tables → IfOk result (λ found. copied found.row ≡ row_of (store_in self.now) table.now key.now) }
+        ensures judged { IfOk result (λ found. IsTrue found.is_judged → may_be_row (schema_of (store_in self.now) table.now) (copied found.row) key.now ≡ true) }
         ensures whole { IsTrue D.is_modelled → AreOnPages (D.life pager.old).seen self.now.tables → DamagedWhere ⊥ result }
         ensures stays { Stays (D.life pager.old) (D.life pager.new) }
         ensures cause { CountsPageFault result (D.life pager.old).faults (D.life pager.new).faults }
     {
         match self.tables.created(table) {
             Some(table) => table.get(alloc, pager, key),
-            None => Ok(None),
+            None => Ok(JudgedRow {
+                row: None,
+                is_judged: true,
+            }),
         }
     }
 

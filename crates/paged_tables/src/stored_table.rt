@@ -1,6 +1,6 @@
 //! A table over its pages.
 
-ghost use Rattle.std.specs.Prelude.{◌≡◌, ◌<◌, ◌+◌, ◌*◌, ◌≤◌, ℕ, List, [], IfOk, IsTrue, None, OnOk, Some, bytes_eq, false, length, option_map, true};
+ghost use Rattle.std.specs.Prelude.{◌≡◌, ◌<◌, ◌+◌, ◌*◌, ◌≤◌, ℕ, List, [], IfOk, IsTrue, IfSome, None, OnOk, Some, bytes_eq, false, length, option_map, true};
 ghost use Rattle.std.specs.Arc.{arc_value};
 ghost use Rattle.std.specs.Map.{lookup, values_of};
 ghost use Rattle.drda_disk.specs.Disk.{Stays};
@@ -16,6 +16,7 @@ ghost use Rattle.table_map.specs.Damage.{DamagedWhere};
 ghost use Rattle.table_map.specs.Keyed.{copied, keyed_rows};
 ghost use Rattle.table_map.specs.Table.{without_keys};
 ghost use Rattle.tables.specs.Tables.{put_row, remove_row};
+ghost use Rattle.paged_tables.specs.Judged.{may_be_row};
 ghost use Rattle.paged_tables.specs.Stored.{AreRowsOf, FormsKey, FormsRow, HasRoomFor, IsFormOf, IsOnPages, IsRowAt, IsStored, KeepsPages, LiesInside, created_table, form_in, laid_anew, opened, rows_in, shown, table_in};
 
 use crate::laws::rows_stand_at_their_forms;
@@ -28,7 +29,9 @@ use row_values::{RowRef, Schema, is_key};
 use std::alloc::{AllocError, Global};
 use std::marker::Model;
 use std::sync::Arc;
-use table_map::{NotedPages, NotedRows, SchemaKeys, TableMap, TablePages, stored_tables_are_whole};
+use table_map::{
+    JudgedRow, NotedPages, NotedRows, SchemaKeys, TableMap, TablePages, stored_tables_are_whole,
+};
 use tables::Rows;
 
 /// Rows of a table, in the order of their keys.
@@ -125,23 +128,27 @@ impl StoredTable {
         &self.rows
     }
 
-    /// The row of this key, in new memory. Bytes that are no key of the schema have none, and nothing is
-    /// read for them.
+    /// The row of this key, and whether it is known to be that, whatever the device. Bytes that are no key
+    /// of the schema have none, and nothing is read for them.
     pub fn get<D: Disk>(
         &self,
         alloc: Global,
         pager: &mut Pager<D>,
         key: &[u8],
-    ) -> Result<Option<Vec<u8>>, PageFault>
+    ) -> Result<JudgedRow, PageFault>
         requires { LiesInside (length (D.life pager.old).seen) self.now }
-        ensures found { IsTrue D.is_modelled → IsOnPages (D.life pager.old).seen self.now → IfOk result (λ row. copied row ≡ lookup (bytes_eq key.now) (table_in self.now).rows) }
+        ensures found { IsTrue D.is_modelled → IsOnPages (D.life pager.old).seen self.now → IfOk result (λ found. copied found.row ≡ lookup (bytes_eq key.now) (table_in self.now).rows) }
+        ensures judged { IfOk result (λ found. IsTrue found.is_judged → may_be_row (Some self.now.schema) (copied found.row) key.now ≡ true) }
         ensures whole { IsTrue D.is_modelled → IsOnPages (D.life pager.old).seen self.now → DamagedWhere ⊥ result }
         ensures stays { Stays (D.life pager.old) (D.life pager.new) }
         ensures cause { CountsPageFault result (D.life pager.old).faults (D.life pager.new).faults }
     {
         match form_of_key(alloc, &self.schema, key) {
             Ok(Some(form)) => self.row_at(alloc, pager, form.as_slice()),
-            Ok(None) => Ok(None),
+            Ok(None) => Ok(JudgedRow {
+                row: None,
+                is_judged: true,
+            }),
             Err(_) => Err(PageFault::NoMemory),
         }
     }
@@ -152,18 +159,20 @@ impl StoredTable {
         alloc: Global,
         pager: &mut Pager<D>,
         form: &[u8],
-    ) -> Result<Option<Vec<u8>>, PageFault>
+    ) -> Result<JudgedRow, PageFault>
         requires { LiesInside (length (D.life pager.old).seen) self.now }
-        ensures found { IsTrue D.is_modelled → IsOnPages (D.life pager.old).seen self.now → IfOk result (λ row. copied row ≡ row_at form.now (rows_in self.now)) }
+        ensures found { IsTrue D.is_modelled → IsOnPages (D.life pager.old).seen self.now → IfOk result (λ found. copied found.row ≡ row_at form.now (rows_in self.now)) }
+        ensures judged { IfOk result (λ found. IsTrue found.is_judged → IfSome found.row (λ row. IsRowAt self.now.schema row.items form.now)) }
         ensures whole { IsTrue D.is_modelled → IsOnPages (D.life pager.old).seen self.now → DamagedWhere ⊥ result }
         ensures stays { Stays (D.life pager.old) (D.life pager.new) }
         ensures cause { CountsPageFault result (D.life pager.old).faults (D.life pager.new).faults }
     {
         stored_tables_are_whole();
-        let keys = SchemaKeys {
-            schema: &self.schema,
-        };
-        self.rows.get(alloc, &keys, pager, form)
+        rows_stand_at_their_forms();
+        let schema: &Schema = &self.schema;
+        let _columns = schema.columns();
+        let keys = SchemaKeys { schema };
+        self.rows.get(alloc, &keys, pager, schema, form)
     }
 
     /// All rows, in the order of their keys, and whether it is known, whatever the device, that they are

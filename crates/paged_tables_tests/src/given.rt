@@ -6,6 +6,7 @@ use ahead_view::{ReadError, Source};
 use paged_tables::{JudgedRows, PagedTables};
 use std::alloc::Global;
 use std::mem;
+use table_map::JudgedRow;
 use tables::Rows;
 
 /// Gives these rows, whatever table is asked for, and the first of them as the row of whatever key.
@@ -47,11 +48,16 @@ impl Source for Given {
         tables: &PagedTables,
         table: &str,
         key: &[u8],
-    ) -> Result<Option<Vec<u8>>, ReadError> {
-        if self.rows.is_empty() {
-            return Ok(None);
-        }
-        Ok(Some(Vec::from_slice(alloc, self.rows.row(0))?))
+    ) -> Result<JudgedRow, ReadError> {
+        let row = if self.rows.is_empty() {
+            None
+        } else {
+            Some(Vec::from_slice(alloc, self.rows.row(0))?)
+        };
+        Ok(JudgedRow {
+            row,
+            is_judged: false,
+        })
     }
 
     fn rows(

@@ -62,7 +62,8 @@ impl<D: Disk> Held<D> {
         name: &str,
         key: &[u8],
     ) -> Result<Option<Vec<u8>>, PageFault> {
-        self.tables.row(alloc, &mut self.pager, name, key)
+        let found = self.tables.row(alloc, &mut self.pager, name, key)?;
+        Ok(found.row)
     }
 
     /// All rows of a table, as it is or as it is lent.

@@ -50,8 +50,8 @@ pub fn scan_lent<D: Disk>(
     let keys = SchemaKeys {
         schema: table.schema,
     };
-    match table.rows.scan_into(alloc, &keys, pager, &mut rows) {
-        Ok(()) => Ok(rows),
+    match table.rows.scan_judged(alloc, &keys, pager, None, &mut rows) {
+        Ok(_judged) => Ok(rows),
         Err(fault) => Err(fault),
     }
 }

@@ -5,6 +5,7 @@ ghost use Rattle.std.specs.Prelude.{◌≡◌};
 use ahead_view::{ReadError, Source};
 use paged_tables::{JudgedRows, PagedTables};
 use std::alloc::{AllocError, Global};
+use table_map::JudgedRow;
 use tables::Rows;
 use test_core::{read_row, read_rows};
 use unit_records::{GroupError, RecordContents, RecordError, Recorder};
@@ -100,12 +101,16 @@ impl Source for Few {
         tables: &PagedTables,
         table: &str,
         key: &[u8],
-    ) -> Result<Option<Vec<u8>>, ReadError> {
+    ) -> Result<JudgedRow, ReadError> {
         self.count_read()?;
-        match read_row(alloc, tables, table, key)? {
-            Some(row) => Ok(Some(self.give(alloc, row.as_slice())?)),
-            None => Ok(None),
-        }
+        let row = match read_row(alloc, tables, table, key)?.row {
+            Some(row) => Some(self.give(alloc, row.as_slice())?),
+            None => None,
+        };
+        Ok(JudgedRow {
+            row,
+            is_judged: false,
+        })
     }
 
     fn rows(

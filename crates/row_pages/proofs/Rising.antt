@@ -1,5 +1,5 @@
 -- Rows that are judged one behind another are rows of the schema whose keys rise.
-use Rattle.std.proofs.Common.{◌≡◌, ◌+◌, ℕ, List, [], ◌∷◌, Bool, true, false, ◌&&◌, refl, sym, ap, ◌∙◌, drop, map, Option, Some, None, Ordering, Less, Equal, Greater}
+use Rattle.std.proofs.Common.{◌≡◌, ◌+◌, ℕ, zero, suc, List, [], ◌∷◌, Bool, true, false, ◌&&◌, refl, sym, ap, ◌∙◌, drop, map, Option, Some, None, Ordering, Less, Equal, Greater}
 use Rattle.std.specs.List.{list_all, slice_get}
 use Rattle.std.specs.Cmp.{IsTotalOrder}
 use Rattle.std.specs.Ordering.{is_lt}
@@ -10,7 +10,7 @@ use Rattle.row_values.specs.Schema.{Schema}
 use Rattle.row_values.proofs.KeyOrder.{key_cmp_total}
 use Rattle.row_values.proofs.ReadSteps.{drop_at}
 use Rattle.row_values.proofs.ValueLaws.{both_true, first_true, second_true}
-use Rattle.row_pages.specs.Judging.{do_rise, go_on, is_behind}
+use Rattle.row_pages.specs.Judging.{AreJudged, do_rise, go_on, is_behind}
 
 pub less_is : (o : Ordering) → is_lt o ≡ true → o ≡ Less
 less_is Less h = refl
@@ -83,3 +83,13 @@ module _ (schema : Schema) (last : Option (List ℕ)) (rows : List (List ℕ)) (
   -- it does, and the others decide
   pub one_more : (whole : Bool) → true ≡ is_row schema row → true ≡ is_behind schema last row → go_on schema last (drop i rows) ≡ whole → go_on schema (Some row) (drop (i + 1) rows) ≡ whole
   one_more whole is_one next so = sym (step true true is_one next) ∙ so
+
+-- ---- one of rows that were judged
+
+all_at : (p : List ℕ → Bool) (rows : List (List ℕ)) (n : ℕ) (row : List ℕ) → list_all p rows ≡ true → slice_get rows n ≡ Some row → p row ≡ true
+all_at p [] n row all at = absurd cc
+all_at p (r ∷ rows) zero row all at = let same : r ≡ row = cc in ap p (sym same) ∙ first_true (p r) (list_all p rows) all
+all_at p (r ∷ rows) (suc n) row all at = all_at p rows n row (second_true (p r) (list_all p rows) all) at
+
+pub judged_row : (schema : Schema) (rows : List (List ℕ)) (n : ℕ) (row : List ℕ) → AreJudged schema rows → slice_get rows n ≡ Some row → is_row schema row ≡ true
+judged_row schema rows n row judged at = all_at (is_row schema) rows n row (first_true (list_all (is_row schema) rows) (rises (key_cmp schema) (map (row_key schema) rows)) judged.rise) at

@@ -1,11 +1,14 @@
 //! A page that is kept, and by which schema it was judged.
 
-ghost use Rattle.std.specs.Prelude.{◌≡◌, IsTrue};
+ghost use Rattle.std.specs.Prelude.{◌≡◌, ℕ, IsTrue, Some, true};
+ghost use Rattle.std.specs.List.{slice_get};
+ghost use Rattle.drda_words.specs.Bytes.{AreBytes};
+ghost use Rattle.row_values.specs.Row.{is_row};
 ghost use Rattle.row_pages.specs.Judging.{AreJudged};
 
 use crate::judging::{are_same, do_rise};
 use crate::kept::KeptPage;
-use row_values::Schema;
+use row_values::{RowRef, Schema};
 use std::alloc::Global;
 use std::marker::Model;
 use std::sync::Arc;
@@ -56,6 +59,18 @@ impl JudgedPage {
             Some(mark) => are_same(mark, schema),
             None => false,
         }
+    }
+
+    /// Whether bytes that are a row of the page are known to be a row of this schema. Where the page carries
+    /// the schema's mark they are not looked at; else they are judged.
+    pub fn is_row(&self, schema: &Schema, row: &[u8]) -> bool
+        ensures known { IsTrue result → (number : ℕ) → slice_get self.now.rows number ≡ Some row.now → is_row schema.now row.now ≡ true }
+        ensures bytes { AreBytes row.now }
+    {
+        if self.is_marked(schema) {
+            return true;
+        }
+        RowRef::parse(schema, row).is_ok()
     }
 
     /// Marks it with the schema, where it does not carry its mark and its rows are rows of it whose keys

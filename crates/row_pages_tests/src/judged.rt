@@ -94,3 +94,36 @@ fn tell_page(alloc: Global, page: &JudgedPage, out: &mut String) -> Result<(), A
     }
     Ok(())
 }
+
+/// Tells of each row of the page at an offset, which is not judged for that, whether it is known to be one of a schema.
+pub fn tell_known(
+    alloc: Global,
+    pager: &mut Counted,
+    asked: &str,
+    out: &mut String,
+) -> Result<(), AllocError> {
+    let (at, word) = asked.split_once(' ').unwrap_or((asked, ""));
+    let at = number(at);
+    let Some(schema) = schema_of(alloc, word)? else {
+        return Ok(());
+    };
+    if at > pager.size() || pager.size() - at < 8_192 {
+        return Ok(());
+    }
+    match pager.judged_page(alloc, at, None) {
+        Ok(page) => tell_rows(page, &schema, out),
+        Err(PageFault::NoMemory) => Err(AllocError),
+        Err(fault) => writeln!(out, "  {fault:?}"),
+    }
+}
+
+// Tells of each row of a page whether it is known to be one of the schema.
+fn tell_rows(page: &JudgedPage, schema: &Schema, out: &mut String) -> Result<(), AllocError> {
+    let kept = page.page();
+    write!(out, "  known:")?;
+    for i in 0..kept.len() {
+        let is_row = page.is_row(schema, kept.row(i));
+        write!(out, " {is_row}")?;
+    }
+    writeln!(out)
+}

@@ -6,7 +6,7 @@ mod judged;
 mod kept;
 mod pages;
 
-use crate::judged::{tell_marks, write_keys};
+use crate::judged::{tell_known, tell_marks, write_keys};
 use crate::kept::{Counted, tell_at, write_byte, write_page};
 use crate::pages::{tell_bytes, tell_changed, tell_laid, tell_page};
 use drda_disk::{FuseDisk, MemDisk};
@@ -56,6 +56,7 @@ fn answer(
         "at" => tell_at(alloc, pager, rest, out),
         "keys" => write_keys(alloc, pager, rest),
         "judged" => tell_marks(alloc, pager, rest, out),
+        "known" => tell_known(alloc, pager, rest, out),
         "forget" => {
             pager.forget();
             Ok(())

@@ -24,8 +24,8 @@ pub fn rows_of<D: Disk>(
     let checked = check_table(alloc, &FirstColumn, schema, pager, TABLE_AT, count)?;
     let table = TableMap::new(alloc, checked.pages);
     let mut rows = Rows::new(alloc);
-    match table.scan_into(alloc, &FirstColumn, pager, &mut rows) {
-        Ok(()) => Ok(rows.len()),
+    match table.scan_judged(alloc, &FirstColumn, pager, None, &mut rows) {
+        Ok(_judged) => Ok(rows.len()),
         Err(_) => Err(CheckError::DeviceFailed),
     }
 }

@@ -1,5 +1,5 @@
 -- Where damage is told.
-use Rattle.std.proofs.Common.{◌≡◌, ℕ, zero, suc, ◌+◌, ◌-◌, ◌*◌, ◌<◌, ◌≤◌, List, [], ◌∷◌, length, get_or, None, ap, ◌∙◌, subst, arith}
+use Rattle.std.proofs.Common.{◌≡◌, ℕ, zero, suc, ◌+◌, ◌-◌, ◌*◌, ◌<◌, ◌≤◌, List, [], ◌∷◌, length, get_or, ap, ◌∙◌, subst, arith}
 use Rattle.std.specs.Prelude.{Result, Ok, Err, IfErr}
 use Rattle.std.specs.List.{AllByRecursion}
 use Rattle.drda_words.specs.Place.{part}
@@ -10,7 +10,6 @@ use Rattle.row_pages.specs.declared.kept.PageFault.{PageFault}
 use Rattle.row_pages.specs.declared.kept.PageFault.TheVariants.{NoMemory, DeviceFailed, Damaged}
 use Rattle.row_pages.proofs.PageBytes.{one_page}
 use Rattle.table_map.specs.Damage.{DamagedWhere, HasNoRows, IsNoPage, SomePage, StoredHasPage, StoredIsWhole}
-use Rattle.table_map.specs.Keyed.{first_of}
 use Rattle.table_map.proofs.Found.{page_there}
 use Rattle.table_map.proofs.Opened.{many_first}
 
@@ -53,9 +52,6 @@ only_memory Q (Err NoMemory) is = tt
 only_memory Q (Err DeviceFailed) is = tt
 only_memory Q (Err Damaged) is = absurd cc
 
-pub no_memory : {S : Type 0} (Q : Type 0) (e : PageFault) (result : Result S PageFault) → result ≡ Err e → e ≡ NoMemory → DamagedWhere Q result
-no_memory Q e result is none = by_fault Q e result is (λ damaged. absurd cc)
-
 -- ---- pages
 
 -- bytes that are no page have no rows
@@ -69,10 +65,6 @@ no_items (row ∷ rows) is = absurd (omega (arith, is))
 -- a page without rows
 pub no_rows : (page : Page) (bytes : List ℕ) → IsPage page bytes → page.rows ≡ [] → HasNoRows bytes
 no_rows page bytes is none other it = ap (λ (p : Page). p.rows) (one_page other page bytes it is) ∙ none
-
-pub no_first : (key_of : List ℕ → List ℕ) (rows : List (List ℕ)) → None ≡ first_of key_of rows → rows ≡ []
-no_first key_of [] is = cc
-no_first key_of (row ∷ rows) is = absurd cc
 
 -- the first of some pages
 pub at_front : (P : List ℕ → Type 0) (file : List ℕ) (at count : ℕ) → 0 < count → P (part file at 8192) → SomePage P file at count

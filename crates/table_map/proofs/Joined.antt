@@ -16,7 +16,7 @@ use Rattle.row_values.specs.Key.{key_cmp, row_key}
 use Rattle.row_values.specs.Row.{is_row}
 use Rattle.row_values.specs.Schema.{Schema}
 use Rattle.row_values.proofs.ValueLaws.{both_true, first_true, second_true}
-use Rattle.table_map.specs.Judged.{ComesBefore, IsScanned, LieWithin, PassesJudged, RiseByKeys}
+use Rattle.table_map.specs.Judged.{ComesBefore, IsScanned, PassesJudged, RiseByKeys}
 use Rattle.table_map.specs.Keyed.{keyed_rows}
 use Rattle.table_map.specs.Passing.{Passes}
 use Rattle.table_map.specs.Table.{without_keys}

@@ -9,3 +9,4 @@ mod Opened
 mod Passed
 mod Told
 mod Joined
+pub mod Knowing

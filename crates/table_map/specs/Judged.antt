@@ -1,10 +1,10 @@
--- What is known of a scan whose pages were all judged, whatever the device gives back.
-use Rattle.std.specs.Prelude.{◌≡◌, ℕ, ◌-◌, ◌<◌, true, List, ◌++◌, length, Option, Some, None}
+-- What is known of rows of pages that were judged, whatever the device gives back.
+use Rattle.std.specs.Prelude.{◌≡◌, ◌⊎◌, ℕ, ◌-◌, ◌<◌, true, List, ◌++◌, length, Option, Some, None}
 use Rattle.std.specs.List.{AllByRecursion, list_all, slice_get}
-use Rattle.std.proofs.Common.{Less, Greater}
+use Rattle.std.proofs.Common.{Less, Equal, Greater}
 use Rattle.drda_words.specs.Bytes.{AreBytes}
 use Rattle.key_map.specs.Slots.{by_bytes}
-use Rattle.key_map.specs.Merging.{Changes, InOrder, Rows, merged}
+use Rattle.key_map.specs.Merging.{Changes, InOrder, Rows, merged, row_at}
 use Rattle.row_pages.specs.Judging.{AreJudged}
 use Rattle.row_values.specs.Row.{is_row}
 use Rattle.row_values.specs.Schema.{Schema}
@@ -42,3 +42,21 @@ pub record IsScanned (key_of : List ℕ → List ℕ) (schema : Schema) (changes
   pub bytes : AllByRecursion AreBytes base
   pub rising : InOrder changes
   pub same : new ≡ old ++ without_keys (merged (keyed_rows key_of base) changes)
+
+-- ---- one row
+
+-- one of these rows, whose key is this one
+pub record IsFound (key_of : List ℕ → List ℕ) (key : List ℕ) (rows : List (List ℕ)) (row : List ℕ) : Type 0 where
+  pub number : ℕ
+  pub is : slice_get rows number ≡ Some row
+  pub same : by_bytes key (key_of row) ≡ Equal
+
+-- a row of the schema, as bytes have it, whose key is this one
+pub record IsRowOf (key_of : List ℕ → List ℕ) (schema : Schema) (key row : List ℕ) : Type 0 where
+  pub good : is_row schema row ≡ true
+  pub bytes : AreBytes row
+  pub same : by_bytes key (key_of row) ≡ Equal
+
+-- the row that the changes have at the key, or one of the schema whose key it is
+abbrev pub IsKnown : (List ℕ → List ℕ) → Schema → List ℕ → Changes → List ℕ → Type 0
+IsKnown key_of schema key changes row = (row_at key changes ≡ Some (Some row)) ⊎ IsRowOf key_of schema key row

@@ -1,6 +1,7 @@
 //! Finding a key among first keys, and in a page.
-ghost use Rattle.std.specs.Prelude.{◌≡◌, ℕ, List, map};
+ghost use Rattle.std.specs.Prelude.{◌≡◌, ℕ, IfSome, List, map};
 ghost use Rattle.key_map.specs.Merging.{InOrder, row_at};
+ghost use Rattle.table_map.specs.Judged.{IsFound};
 ghost use Rattle.table_map.specs.Keyed.{keyed_rows, seen};
 ghost use Rattle.table_map.specs.Places.{IsPlace};
 
@@ -29,7 +30,8 @@ pub(crate) fn place_of(keys: &[Vec<u8>], key: &[u8]) -> usize
 /// The row of a key in a page whose keys rise. Halves the rows that are left at each step, and takes no
 /// memory.
 pub(crate) fn find_row<'p, K: RowKeys>(keys: &K, page: &'p KeptPage, key: &[u8]) -> Option<&'p [u8]>
-    ensures { InOrder (keyed_rows (K.key_of keys.now) page.now.rows) → seen result ≡ row_at key.now (keyed_rows (K.key_of keys.now) page.now.rows) }
+    ensures found { InOrder (keyed_rows (K.key_of keys.now) page.now.rows) → seen result ≡ row_at key.now (keyed_rows (K.key_of keys.now) page.now.rows) }
+    ensures here { IfSome result (λ row. IsFound (K.key_of keys.now) key.now page.now.rows row.now) }
 {
     let mut low = 0;
     let mut high = page.len();

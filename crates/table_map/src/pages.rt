@@ -1,5 +1,5 @@
 //! The pages of a table.
-ghost use Rattle.std.specs.Prelude.{◌≡◌, ◌+◌, ◌*◌, ◌^◌, ◌<◌, ◌≤◌, ℕ, List, [], None, IsTrue, IfOk, Some, length, map};
+ghost use Rattle.std.specs.Prelude.{◌≡◌, ◌+◌, ◌*◌, ◌^◌, ◌<◌, ◌≤◌, ℕ, List, [], None, IsTrue, IfOk, IfSome, Some, length, map};
 ghost use Rattle.std.specs.List.{slice_get};
 ghost use Rattle.drda_words.specs.Place.{part};
 ghost use Rattle.drda_disk.specs.Disk.{Stays};
@@ -8,6 +8,7 @@ ghost use Rattle.row_pages.specs.Laying.{rows_over};
 ghost use Rattle.row_pages.specs.Keeping.{CountsPageFault, TellsDamage};
 ghost use Rattle.key_map.specs.Merging.{InOrder, row_at};
 ghost use Rattle.table_map.specs.Damage.{DamagedWhere, LacksPage};
+ghost use Rattle.table_map.specs.Judged.{IsRowOf};
 ghost use Rattle.table_map.specs.Keyed.{keyed_rows, copied, seen};
 ghost use Rattle.table_map.specs.Stored.{IsStored};
 
@@ -15,7 +16,8 @@ use crate::RowKeys;
 use crate::base::RowsLeft;
 use crate::finding::{find_row, place_of};
 use drda_disk::Disk;
-use row_pages::{KeptPage, PAGE_BYTES, PageFault, PageKind, Pager};
+use row_pages::{JudgedPage, PAGE_BYTES, PageFault, PageKind, Pager};
+use row_values::Schema;
 use std::alloc::{AllocError, Global};
 use std::marker::Model;
 
@@ -37,6 +39,14 @@ impl Model for TablePages {
     ghost invariant = { λ p. p.at + 8192 * length p.first_keys.items ≤ 2 ^ 40 };
 }
 
+/// What was found at a key: the row there, in new memory, or that there is none.
+#[derive(Drop)]
+pub struct JudgedRow {
+    pub row: Option<Vec<u8>>,
+    /// Whether it is known, whatever the device, that a row which was found is one of the schema at the key.
+    pub is_judged: bool,
+}
+
 /// Between which keys the rows of a page lie: the first is the key of its first row, and the other that of
 /// the next page's, where there is one.
 #[derive(Clone, Copy)]
@@ -55,39 +65,50 @@ fn key_at(keys: &[Vec<u8>], number: usize) -> Option<&[u8]>
     }
 }
 
-/// The row of a key in a page, in new memory.
+/// The row of a key in a page, and whether it is one of the schema.
 fn copy_found<K: RowKeys>(
     alloc: Global,
     keys: &K,
-    page: &KeptPage,
+    page: &JudgedPage,
+    schema: &Schema,
     key: &[u8],
-) -> Result<Option<Vec<u8>>, AllocError>
-    ensures { InOrder (keyed_rows (K.key_of keys.now) page.now.rows) → IfOk result (λ row. copied row ≡ row_at key.now (keyed_rows (K.key_of keys.now) page.now.rows)) }
+) -> Result<JudgedRow, AllocError>
+    ensures found { InOrder (keyed_rows (K.key_of keys.now) page.now.rows) → IfOk result (λ found. copied found.row ≡ row_at key.now (keyed_rows (K.key_of keys.now) page.now.rows)) }
+    ensures judged { IfOk result (λ found. IsTrue found.is_judged → IfSome found.row (λ row. IsRowOf (K.key_of keys.now) schema.now key.now row.items)) }
 {
-    match find_row(keys, page, key) {
-        Some(row) => Ok(Some(row.to_vec(alloc)?)),
-        None => Ok(None),
+    match find_row(keys, page.page(), key) {
+        Some(row) => {
+            let is_judged = page.is_row(schema, row);
+            let row = Some(row.to_vec(alloc)?);
+            Ok(JudgedRow { row, is_judged })
+        }
+        None => Ok(JudgedRow {
+            row: None,
+            is_judged: true,
+        }),
     }
 }
 
-/// The row of a key in the page at an offset, in new memory.
+/// The row of a key in the page at an offset.
 fn row_in_page<K: RowKeys, D: Disk>(
     alloc: Global,
     keys: &K,
     pager: &mut Pager<D>,
     at: usize,
+    schema: &Schema,
     key: &[u8],
-) -> Result<Option<Vec<u8>>, PageFault>
+) -> Result<JudgedRow, PageFault>
     requires { at + 8192 ≤ length (D.life pager.old).seen }
     ensures found { (rows : List (List ℕ)) → IsTrue D.is_modelled → IsPage (record { kind = PageKind.Rows; rows = rows }) (part (D.life pager.old).seen at 8192)
-        → InOrder (keyed_rows (K.key_of keys.now) rows) → IfOk result (λ row. copied row ≡ row_at key.now (keyed_rows (K.key_of keys.now) rows)) }
+        → InOrder (keyed_rows (K.key_of keys.now) rows) → IfOk result (λ found. copied found.row ≡ row_at key.now (keyed_rows (K.key_of keys.now) rows)) }
+    ensures judged { IfOk result (λ found. IsTrue found.is_judged → IfSome found.row (λ row. IsRowOf (K.key_of keys.now) schema.now key.now row.items)) }
     ensures damaged { IsTrue D.is_modelled → TellsDamage (part (D.life pager.old).seen at 8192) result }
     ensures stays { Stays (D.life pager.old) (D.life pager.new) }
     ensures cause { CountsPageFault result (D.life pager.old).faults (D.life pager.new).faults }
 {
-    let page = pager.page(alloc, at)?;
-    match copy_found(alloc, keys, page, key) {
-        Ok(row) => Ok(row),
+    let page = pager.judged_page(alloc, at, None)?;
+    match copy_found(alloc, keys, page, schema, key) {
+        Ok(found) => Ok(found),
         Err(_) => Err(PageFault::NoMemory),
     }
 }
@@ -136,27 +157,32 @@ impl TablePages {
         RowsLeft::new(self.at, self.first_keys.len())
     }
 
-    /// The row of a key, in new memory. One page is looked at, at most: the one whose first key is the
-    /// last that the key does not come before. `Damaged` is told only where that is no page.
-    pub fn row<K: RowKeys, D: Disk>(
+    /// The row of a key. One page is looked at, at most: the one whose first key is the last that the key
+    /// does not come before. `Damaged` is told only where that is no page.
+    pub(crate) fn row<K: RowKeys, D: Disk>(
         &self,
         alloc: Global,
         keys: &K,
         pager: &mut Pager<D>,
+        schema: &Schema,
         key: &[u8],
-    ) -> Result<Option<Vec<u8>>, PageFault>
+    ) -> Result<JudgedRow, PageFault>
         requires { self.now.at + 8192 * length self.now.keys ≤ length (D.life pager.old).seen }
         ensures found { (pages : List (List (List ℕ))) → IsTrue D.is_modelled → IsStored (K.key_of keys.now) self.now pages (D.life pager.old).seen
-            → IfOk result (λ row. copied row ≡ row_at key.now (keyed_rows (K.key_of keys.now) (rows_over pages))) }
+            → IfOk result (λ found. copied found.row ≡ row_at key.now (keyed_rows (K.key_of keys.now) (rows_over pages))) }
+        ensures judged { IfOk result (λ found. IsTrue found.is_judged → IfSome found.row (λ row. IsRowOf (K.key_of keys.now) schema.now key.now row.items)) }
         ensures damaged { IsTrue D.is_modelled → DamagedWhere (LacksPage key.now self.now (D.life pager.old).seen) result }
         ensures stays { Stays (D.life pager.old) (D.life pager.new) }
         ensures cause { CountsPageFault result (D.life pager.old).faults (D.life pager.new).faults }
     {
         let place = place_of(&self.first_keys, key);
         if place == 0 {
-            return Ok(None);
+            return Ok(JudgedRow {
+                row: None,
+                is_judged: true,
+            });
         }
         let at = self.at + PAGE_BYTES * (place - 1);
-        row_in_page(alloc, keys, pager, at, key)
+        row_in_page(alloc, keys, pager, at, schema, key)
     }
 }

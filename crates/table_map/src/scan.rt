@@ -60,34 +60,14 @@ impl TableMap {
         }
     }
 
-    /// All rows in the order of their keys, put behind those of a list. Each page is looked at once,
-    /// and its rows are put there from where they lie. `Damaged` is told only where one of the
-    /// table's pages is no page or has no rows. After a fault no promise is made of the rows that
-    /// were put behind the others.
-    pub fn scan_into<K: RowKeys, D: Disk>(
-        &self,
-        alloc: Global,
-        keys: &K,
-        pager: &mut Pager<D>,
-        rows: &mut Rows,
-    ) -> Result<(), PageFault>
-        requires { self.now.places.at + 8192 * length self.now.places.keys ≤ length (D.life pager.old).seen }
-        ensures rows { (pages : List (List (List ℕ))) → IsTrue D.is_modelled → IsStored (K.key_of keys.now) self.now.places pages (D.life pager.old).seen
-            → OnOk result (rows.new ≡ rows.old ++ without_keys (rows_of_table (K.key_of keys.now) self.now pages)) }
-        ensures damaged { IsTrue D.is_modelled → DamagedWhere (SomePage HasNoRows (D.life pager.old).seen self.now.places.at (length self.now.places.keys)) result }
-        ensures stays { Stays (D.life pager.old) (D.life pager.new) }
-        ensures cause { CountsPageFault result (D.life pager.old).faults (D.life pager.new).faults }
-    {
-        match self.scan_judged(alloc, keys, pager, None, rows) {
-            Ok(_) => Ok(()),
-            Err(fault) => Err(fault),
-        }
-    }
-
-    /// The same, each page judged by a schema, where there is one. Whether all rows that the pages gave are
-    /// rows of it, and rise by their keys over all pages: then what was put behind the others is rows of
-    /// the schema in the order of their keys, with the changes among them, whatever the device. A page that
-    /// carries the schema's mark is not judged again.
+    /// All rows in the order of their keys, put behind those of a list. Each page is looked at once, and its
+    /// rows are put there from where they lie. `Damaged` is told only where one of the table's pages is no
+    /// page or has no rows; after a fault no promise is made of the rows that were put behind the others.
+    ///
+    /// Each page is judged by a schema, where there is one. Whether all rows that the pages gave are rows of
+    /// it, and rise by their keys over all pages: then what was put behind the others is rows of the schema
+    /// in the order of their keys, with the changes among them, whatever the device. A page that carries the
+    /// schema's mark is not judged again.
     pub fn scan_judged<K: RowKeys, D: Disk>(
         &self,
         alloc: Global,

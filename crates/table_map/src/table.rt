@@ -1,5 +1,5 @@
 //! A table's rows: those of its pages with the changes since.
-ghost use Rattle.std.specs.Prelude.{◌≡◌, ◌+◌, ◌*◌, ◌<◌, ◌≤◌, ℕ, List, [], IsTrue, Some, None, OnOk, IfErr, IfOk, false, length};
+ghost use Rattle.std.specs.Prelude.{◌≡◌, ◌+◌, ◌*◌, ◌<◌, ◌≤◌, ℕ, List, [], IsTrue, Some, None, OnOk, IfErr, IfOk, IfSome, false, length};
 ghost use Rattle.drda_disk.specs.Disk.{Stays};
 ghost use Rattle.row_pages.specs.Laying.{rows_over};
 ghost use Rattle.row_pages.specs.Keeping.{CountsPageFault};
@@ -8,14 +8,17 @@ ghost use Rattle.key_map.specs.Slots.{HasRoom, by_key};
 ghost use Rattle.key_map.specs.Merging.{InOrder, changed, row_at};
 ghost use Rattle.key_map.specs.Overlay.{changes_of};
 ghost use Rattle.table_map.specs.Damage.{DamagedWhere, LacksPage};
+ghost use Rattle.table_map.specs.Judged.{IsKnown};
 ghost use Rattle.table_map.specs.Keyed.{copied, keyed_rows};
 ghost use Rattle.table_map.specs.Stored.{IsStored};
 ghost use Rattle.table_map.specs.Table.{rows_of_table};
 
+use crate::pages::JudgedRow;
 use crate::{RowKeys, TablePages};
 use drda_disk::Disk;
 use key_map::Overlay;
 use row_pages::{PageFault, Pager};
+use row_values::Schema;
 use std::alloc::{AllocError, Global};
 use std::marker::Model;
 
@@ -35,14 +38,17 @@ impl Model for TableMap {
     ghost view = { λ t. record { places = t.pages; overlay = t.overlay } };
 }
 
-/// A copy of a row.
-fn copy_row(alloc: Global, row: &[u8]) -> Result<Option<Vec<u8>>, PageFault>
-    ensures row { IfOk result (λ copy. copied copy ≡ Some row.now) }
+/// A copy of a row of a change, which is known.
+fn copy_row(alloc: Global, row: &[u8]) -> Result<JudgedRow, PageFault>
+    ensures row { IfOk result (λ found. copied found.row ≡ Some row.now) }
     ensures fault { IfErr result (λ fault. fault ≡ NoMemory) }
     ensures cause { (n : ℕ) → CountsPageFault result n n }
 {
     match row.to_vec(alloc) {
-        Ok(copy) => Ok(Some(copy)),
+        Ok(copy) => Ok(JudgedRow {
+            row: Some(copy),
+            is_judged: true,
+        }),
         Err(_) => Err(PageFault::NoMemory),
     }
 }
@@ -59,26 +65,32 @@ impl TableMap {
         }
     }
 
-    /// The row of a key, in new memory. A key that was changed is looked up in the changes alone;
-    /// else one page is looked at, at most, and `Damaged` is told only where that is no page.
+    /// The row of a key. A key that was changed is looked up in the changes alone; else one page is looked
+    /// at, at most, and `Damaged` is told only where that is no page. A row of a page is known to be one of
+    /// the schema by the page's mark, or it is judged: for one row no page is marked.
     pub fn get<K: RowKeys, D: Disk>(
         &self,
         alloc: Global,
         keys: &K,
         pager: &mut Pager<D>,
+        schema: &Schema,
         key: &[u8],
-    ) -> Result<Option<Vec<u8>>, PageFault>
+    ) -> Result<JudgedRow, PageFault>
         requires { self.now.places.at + 8192 * length self.now.places.keys ≤ length (D.life pager.old).seen }
         ensures found { (pages : List (List (List ℕ))) → IsTrue D.is_modelled → IsStored (K.key_of keys.now) self.now.places pages (D.life pager.old).seen
-            → IfOk result (λ row. copied row ≡ row_at key.now (rows_of_table (K.key_of keys.now) self.now pages)) }
+            → IfOk result (λ found. copied found.row ≡ row_at key.now (rows_of_table (K.key_of keys.now) self.now pages)) }
+        ensures judged { IfOk result (λ found. IsTrue found.is_judged → IfSome found.row (λ row. IsKnown (K.key_of keys.now) schema.now key.now (changes_of self.now.overlay) row.items)) }
         ensures damaged { IsTrue D.is_modelled → DamagedWhere ((row_at key.now (changes_of self.now.overlay) ≡ None) × LacksPage key.now self.now.places (D.life pager.old).seen) result }
         ensures stays { Stays (D.life pager.old) (D.life pager.new) }
         ensures cause { CountsPageFault result (D.life pager.old).faults (D.life pager.new).faults }
     {
         match self.overlay.change(key) {
             Some(Some(row)) => copy_row(alloc, row),
-            Some(None) => Ok(None),
-            None => self.pages.row(alloc, keys, pager, key),
+            Some(None) => Ok(JudgedRow {
+                row: None,
+                is_judged: true,
+            }),
+            None => self.pages.row(alloc, keys, pager, schema, key),
         }
     }
 

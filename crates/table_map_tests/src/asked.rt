@@ -7,7 +7,7 @@ use key_map::row_form;
 use row_pages::{PageFault, Pager};
 use row_values::Schema;
 use std::alloc::Global;
-use table_map::{SchemaKeys, TableMap};
+use table_map::{JudgedRow, SchemaKeys, TableMap};
 use tables::Rows;
 use test_bytes::bytes_of;
 use test_rows::{say, tell};
@@ -18,6 +18,18 @@ fn name_of(fault: PageFault) -> &'static str {
         PageFault::DeviceFailed => "the device failed",
         PageFault::Damaged => "damaged",
     }
+}
+
+// Tells a row that was found, and where it is none of the schema.
+fn tell_found(alloc: Global, found: JudgedRow, out: &mut Vec<u8>) -> Option<()> {
+    let JudgedRow { row, is_judged } = found;
+    let Some(row) = row else {
+        return say(out, "no row");
+    };
+    if !is_judged {
+        say(out, "not of the schema")?;
+    }
+    tell(alloc, out, "row", &row)
 }
 
 // Tells the row of the key of a row.
@@ -33,9 +45,8 @@ fn tell_row<D: Disk>(
 {
     let row = bytes_of(alloc, &[row]).ok()?;
     let key = row_form(alloc, schema, &row).ok()?;
-    match table.get(alloc, &SchemaKeys { schema }, pager, &key) {
-        Ok(Some(found)) => tell(alloc, out, "row", &found),
-        Ok(None) => say(out, "no row"),
+    match table.get(alloc, &SchemaKeys { schema }, pager, schema, &key) {
+        Ok(found) => tell_found(alloc, found, out),
         Err(fault) => say(out, name_of(fault)),
     }
 }
@@ -51,7 +62,7 @@ fn tell_rows<D: Disk>(
     requires { table.now.places.at + 8192 * length table.now.places.keys ≤ length (D.life pager.old).seen }
 {
     let mut rows = Rows::new(alloc);
-    if let Err(fault) = table.scan_into(alloc, &SchemaKeys { schema }, pager, &mut rows) {
+    if let Err(fault) = table.scan_judged(alloc, &SchemaKeys { schema }, pager, None, &mut rows) {
         return say(out, name_of(fault));
     }
     for i in 0..rows.len() {

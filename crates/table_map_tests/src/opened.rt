@@ -7,7 +7,7 @@ use key_map::row_form;
 use row_pages::{PageFault, Pager};
 use row_values::Schema;
 use std::alloc::{AllocError, Global};
-use table_map::{SchemaKeys, TableMap, TablePages};
+use table_map::{TableMap, TablePages};
 use test_bytes::bytes_of;
 
 // Puts a row at a key, or takes the one there out.
@@ -50,6 +50,45 @@ fn make_change(
     change(alloc, table, &key, row)
 }
 
+// The key of the first row of the page at an offset.
+fn first_key<D: Disk>(
+    alloc: Global,
+    schema: &Schema,
+    pager: &mut Pager<D>,
+    at: usize,
+) -> Result<Vec<u8>, PageFault> {
+    if pager.size() < at || pager.size() - at < 8_192 {
+        return Err(PageFault::DeviceFailed);
+    }
+    let page = pager.page(alloc, at)?;
+    if page.len() == 0 {
+        return Err(PageFault::Damaged);
+    }
+    match row_form(alloc, schema, page.row(0)) {
+        Ok(key) => Ok(key),
+        Err(_) => Err(PageFault::NoMemory),
+    }
+}
+
+// The keys of the first rows of so many pages.
+fn first_keys<D: Disk>(
+    alloc: Global,
+    schema: &Schema,
+    pager: &mut Pager<D>,
+    pages: usize,
+) -> Result<Vec<Vec<u8>>, PageFault>
+    requires { pages ≤ 12 }
+{
+    let mut keys = Vec::new(alloc);
+    for page in 0..pages {
+        let key = first_key(alloc, schema, pager, TABLE_AT + 8_192 * page)?;
+        if keys.push(key).is_err() {
+            return Err(PageFault::NoMemory);
+        }
+    }
+    Ok(keys)
+}
+
 /// The table of so many pages, where the disk has room for twelve and it has no more, with these changes, which semicolons part.
 pub fn opened<D: Disk>(
     alloc: Global,
@@ -60,11 +99,14 @@ pub fn opened<D: Disk>(
 ) -> Result<TableMap, PageFault>
     ensures { IfOk result (λ table. table.places.at + 8192 * length table.places.keys ≤ length (D.life pager.new).seen) }
 {
-    if pages > 12 || pager.size() < DISK_BYTES {
+    if pages > 12 {
         return Err(PageFault::DeviceFailed);
     }
-    let places = TablePages::open(alloc, &SchemaKeys { schema }, pager, TABLE_AT, pages)?;
-    let mut table = TableMap::new(alloc, places);
+    let keys = first_keys(alloc, schema, pager, pages)?;
+    if keys.len() > 12 || pager.size() < DISK_BYTES {
+        return Err(PageFault::DeviceFailed);
+    }
+    let mut table = TableMap::new(alloc, TablePages::new(TABLE_AT, keys));
     for asked in changes.split_terminator("; ") {
         if make_change(alloc, schema, &mut table, asked).is_err() {
             return Err(PageFault::NoMemory);

@@ -4,6 +4,7 @@ use crate::reader::{read_row, read_rows};
 use ahead_view::{ReadError, Source};
 use paged_tables::{JudgedRows, PagedTables};
 use std::alloc::Global;
+use table_map::JudgedRow;
 use unit_records::{GroupError, RecordContents, RecordError, Recorder};
 
 /// Records as another one does, and reads rows of tables that have no pages.
@@ -52,7 +53,7 @@ impl<R> Source for Unpaged<R> {
         tables: &PagedTables,
         table: &str,
         key: &[u8],
-    ) -> Result<Option<Vec<u8>>, ReadError> {
+    ) -> Result<JudgedRow, ReadError> {
         read_row(alloc, tables, table, key)
     }
 

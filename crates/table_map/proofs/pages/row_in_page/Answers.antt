@@ -10,4 +10,4 @@ pub returns-in-Ok-clause-found : goal.returns-in-Ok-clause-found
 returns-in-Ok-clause-found g c rows honest is up =
     let key_of = g.K.RowKeys.key_of c.args.keys.now in
     let same = one_page c.in_ok-page.page.now (record { kind = kind.Rows; rows = rows }) _ (c.in_ok-page.ensures.page honest) is in
-    c.in-Ok.ensures (subst (λ (p : Page). InOrder (keyed_rows key_of p.rows)) (sym same) up) ∙ ap (λ (p : Page). row_at c.args.key.now (keyed_rows key_of p.rows)) same
+    c.in-Ok.ensures.found (subst (λ (p : Page). InOrder (keyed_rows key_of p.rows)) (sym same) up) ∙ ap (λ (p : Page). row_at c.args.key.now (keyed_rows key_of p.rows)) same

@@ -15,7 +15,7 @@ get-requires g c = all_found (LiesInside (length (g.D.Disk.life c.args.pager.now
 
 pub returns-in-Some-clause-found : goal.returns-in-Some-clause-found
 returns-in-Some-clause-found g c = λ modelled are.
-    subst (λ (o : Option Table). IfOk c.get.result (λ row. copied row ≡ option_and_then (λ (t : Table). lookup (bytes_eq c.args.key.now) t.rows) o)) c.in-Some.ensures.found
+    subst (λ (o : Option Table). IfOk c.get.result (λ found. copied found.row ≡ option_and_then (λ (t : Table). lookup (bytes_eq c.args.key.now) t.rows) o)) c.in-Some.ensures.found
     (c.get.ensures.found modelled (all_found (IsOnPages (g.D.Disk.life c.args.pager.now).seen) (by_key c.args.table.now) c.args.self.now.tables c.in-Some.table.now c.in-Some.ensures.here are))
 
 pub returns-in-Some-clause-whole : goal.returns-in-Some-clause-whole

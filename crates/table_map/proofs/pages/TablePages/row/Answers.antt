@@ -35,7 +35,7 @@ returns-clause-found g c pages honest is =
     let next : n ≡ suc (n - 1) = omega (arith, c.if-place-eq0.false) in
     let there = subst (λ k. IsPage (record { kind = kind.Rows; rows = get_or pages (n - 1) [] }) (part file (k + 8192 * (n - 1)) 8192)) (sym (ap (λ (p : Places). p.at) c.self.view_is))
     (lies_at key_of q c.args.self.now pages file is n place (n - 1) next) in
-    subst (λ (o : Option (List ℕ)). IfOk c.row_in_page.result (λ row. copied row ≡ o)) (sym (found_in key_of q c.args.self.now pages file is n place (n - 1) next)) (c.row_in_page.ensures.found (get_or pages (n - 1) []) honest there (in_order key_of q c.args.self.now pages file is n place (n - 1) next))
+    subst (λ (o : Option (List ℕ)). IfOk c.row_in_page.result (λ found. copied found.row ≡ o)) (sym (found_in key_of q c.args.self.now pages file is n place (n - 1) next)) (c.row_in_page.ensures.found (get_or pages (n - 1) []) honest there (in_order key_of q c.args.self.now pages file is n place (n - 1) next))
 
 pub returns-clause-damaged : goal.returns-clause-damaged
 returns-clause-damaged g c honest =
