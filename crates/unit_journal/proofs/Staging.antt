@@ -1,18 +1,19 @@
 -- What a crash leaves of groups on their way.
-use Rattle.std.proofs.Common.{◌≡◌, ◌⊎◌, inl, inr, ⊎_elim, ℕ, ◌+◌, ◌^◌, ◌<◌, ◌≤◌, List, [], ◌∷◌, ◌++◌, length, get_or, drop, refl, sym, ◌∙◌, ap, subst, arith, length-append}
-use Rattle.std.specs.Prelude.{Bool, IsTrue, true, false}
+use Rattle.std.proofs.Common.{◌≡◌, inl, inr, ⊎_elim, ℕ, ◌+◌, ◌<◌, ◌≤◌, List, [], ◌∷◌, ◌++◌, length, get_or, drop, refl, sym, ◌∙◌, ap, subst, arith}
+use Rattle.std.specs.Prelude.{Bool, true, false}
 use Rattle.std.proofs.lemmas.List.{append-nil}
 use Rattle.std.proofs.lemmas.Bool.{false≢true}
 use Rattle.drda_words.specs.Place.{part}
-use Rattle.drda_disk.specs.Disk.{Life, LeavesOnly, Now, Only, Stays, Tears, Torn, overlaid}
-use Rattle.drda_disk.specs.Images.{Torn-overlaid, Torn-refl}
+use Rattle.drda_disk.specs.Disk.{Life, LeavesOnly, Only, Stays, Tears, Torn, overlaid}
+use Rattle.drda_disk.specs.Images.{Torn-refl}
 use Rattle.drda_disk.specs.Region.{end_of, SameOutside}
 use Rattle.drda_disk.specs.declared.region.Region.{Region}
 use Rattle.drda_disk.proofs.Moments.{torn, stays_leaves, Only-stays}
 use Rattle.drda_disk.proofs.Parts.{part_before, part-overlaid, Torn-wider, Torn-trans}
-use Rattle.unit_journal.specs.Record.{Entry, behind, laid, AreShort}
+use Rattle.unit_journal.specs.Record.{Entry, laid, AreShort}
 use Rattle.unit_journal.specs.Stands.{StandsFrom, Stands, IsBeforeOrAfterAll}
-use Rattle.unit_journal.specs.Staged.{IsUnderWay, body_of, gated_of, held_of, is_settled, laid_of, next_of, region_of}
+use Rattle.unit_journal.specs.Journal.{IsSettled}
+use Rattle.unit_journal.specs.Staged.{IsAtRest, IsUnderWay, body_of, gated_of, is_settled, journal_of, laid_of, next_of, region_of}
 use Rattle.unit_journal.specs.declared.staged.Staged.{Staged}
 use Rattle.unit_journal.proofs.Spelling.{byte_part}
 use Rattle.unit_journal.proofs.Appending.{length-bytes, length-laid-append, either, with_it}
@@ -174,3 +175,43 @@ module _ (modelled : Bool) (old new : Life) (s : Staged) (es gs hs : List Entry)
     short = u.short;
     rest = λ settled. Only-stays old new stays (u.rest settled);
   }
+
+-- ---- at rest
+
+module _ (modelled : Bool) (disk : Life) (s : Staged) (rest : IsAtRest s) (es : List Entry) where
+  pub begins_at_rest : IsSettled modelled disk (journal_of s) es → IsUnderWay modelled disk s es [] []
+  begins_at_rest is = record {
+    modelled_disk = is.modelled_disk;
+    images = λ c now. subst (λ (l : List ℕ). IsBeforeOrAfterAll (region_of s) disk.seen es [] l) (sym (is.durable c now)) (record { others = Torn-refl (region_of s).at (region_of s).length disk.seen; stands = inl is.stands });
+    stands = subst (λ (l : List Entry). Stands (region_of s) l disk.seen) (sym (append-nil es)) is.stands;
+    next = is.next;
+    gated = rest.none_gated;
+    laid_is = rest.none_laid;
+    body = refl;
+    short = tt;
+    rest = λ settled. is.durable;
+  }
+
+  pub ends_at_rest : IsUnderWay modelled disk s es [] [] → IsSettled modelled disk (journal_of s) es
+  ends_at_rest u = record {
+    modelled_disk = u.modelled_disk;
+    durable = u.rest rest.settled;
+    stands = subst (λ (l : List Entry). Stands (region_of s) l disk.seen) (append-nil es) u.stands;
+    next = u.next;
+  }
+
+-- ---- the group that was laid is given up
+
+pub was_dropped : (modelled : Bool) (disk : Life) (s after : Staged) (es gs hs : List Entry) → region_of after ≡ region_of s → next_of after ≡ next_of s → gated_of after ≡ gated_of s → laid_of after ≡ 0 → is_settled after ≡ is_settled s
+    → IsUnderWay modelled disk s es gs hs → IsUnderWay modelled disk after es gs []
+was_dropped modelled disk s after es gs hs region next gated none settled u = record {
+  modelled_disk = u.modelled_disk;
+  images = λ c now. subst (λ (r : Region). IsBeforeOrAfterAll r disk.seen es gs c) (sym region) (u.images c now);
+  stands = subst (λ (r : Region). Stands r (es ++ gs) disk.seen) (sym region) u.stands;
+  next = next ∙ u.next ∙ ap (λ (r : Region). r.at + length (laid es)) (sym region);
+  gated = gated ∙ u.gated;
+  laid_is = none;
+  body = refl;
+  short = tt;
+  rest = λ (is : _). u.rest (sym settled ∙ is);
+}

@@ -5,6 +5,7 @@ pub mod LaidGroup
 pub mod Stands
 pub mod Journal
 pub mod Errors
+pub mod Adding
 pub mod Open
 pub mod Opened
 pub mod Staged

@@ -21,15 +21,14 @@ pub struct Journal {
 }
 
 impl Journal {
+    ghost use Rattle.unit_journal.specs.Adding.{IsPlace};
     ghost use Rattle.unit_journal.specs.Journal.{IsSettled, region_of, next_of, held_of, room_of};
 
     /// An empty journal, whatever the region held. The region has at least a byte and at most 2^32,
     /// and lies in the disk. On a fault the region may hold any bytes, so it is not for a region
     /// whose records still count.
     pub fn start<D: Disk>(disk: &mut D, region: Region) -> Result<Journal, DiskFault>
-        requires some { 0 < region.length }
-        requires small { region.length ≤ 2 ^ 32 }
-        requires inside { end_of region ≤ length (D.life disk.old).seen }
+        requires place { IsPlace (length (D.life disk.old).seen) region }
         ensures empty { IsTrue D.is_modelled → IfOk result (λ journal. IsSettled D.is_modelled (D.life disk.new) journal []) }
         ensures region { IfOk result (λ journal. region_of journal ≡ region) }
         ensures held { IfOk result (λ journal. held_of journal ≡ 0) }

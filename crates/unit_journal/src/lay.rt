@@ -47,7 +47,7 @@ fn laid_bytes(alloc: Global, records: &[Record], len: usize) -> Result<Vec<u8>, 
 }
 
 impl Journal {
-    ghost use Rattle.unit_journal.specs.Journal.{region_of, next_of, held_of};
+    ghost use Rattle.unit_journal.specs.Adding.{IsLaidIn, IsPlace};
 
     /// Lays these records and no others into a region, with open gates and a closed gate behind them,
     /// by one write, and makes their journal, which holds `held` bytes back. Nothing is synced, so a
@@ -64,13 +64,9 @@ impl Journal {
         records: &[Record],
         held: usize,
     ) -> Result<Journal, LayError>
-        requires some { 0 < region.length }
-        requires small { region.length ≤ 2 ^ 32 }
-        requires inside { end_of region ≤ length (D.life disk.old).seen }
+        requires place { IsPlace (length (D.life disk.old).seen) region }
         ensures laid { IsTrue D.is_modelled → OnOk result (Stands region (entries_of records.now) (D.life disk.new).seen) }
-        ensures region { IfOk result (λ journal. region_of journal ≡ region) }
-        ensures next { IfOk result (λ journal. next_of journal ≡ region.at + length (laid (entries_of records.now))) }
-        ensures held { IfOk result (λ journal. held_of journal ≡ held) }
+        ensures begins { IfOk result (IsLaidIn region (entries_of records.now) held) }
         ensures within { (from m : ℕ) (base : List ℕ) → from ≤ region.at → end_of region ≤ from + m → Within from m base (D.life disk.old)
             → LeavesOnly (D.life disk.old) (D.life disk.new) (Torn from m base) }
         ensures others { SameOutside region (D.life disk.old).seen (D.life disk.new).seen }

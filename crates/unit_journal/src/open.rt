@@ -78,6 +78,7 @@ fn read_record<D: Disk>(
 }
 
 impl Journal {
+    ghost use Rattle.unit_journal.specs.Adding.{IsPlace};
     ghost use Rattle.unit_journal.specs.Opened.{ReadsRegion, IsOpened};
     ghost use Rattle.unit_journal.specs.Journal.{region_of, held_of};
 
@@ -93,9 +94,7 @@ impl Journal {
         disk: &mut D,
         region: Region,
     ) -> Result<(Journal, Vec<Record>), OpenError>
-        requires some { 0 < region.length }
-        requires small { region.length ≤ 2 ^ 32 }
-        requires inside { end_of region ≤ length (D.life disk.old).seen }
+        requires place { IsPlace (length (D.life disk.old).seen) region }
         requires settled { Only (D.life disk.old) }
         ensures reads { IsTrue D.is_modelled → ReadsRegion region D.is_modelled (D.life disk.old).seen (D.life disk.new) result }
         // Where these records stand there, they are found and no damage is told.

@@ -39,6 +39,6 @@ returns-clause-done g c base is =
     (g.D.Disk.life c.lay.new.disk) (g.D.Disk.life c.switch.new.disk) c.args.first_catalogue c.args.catalogue_pages (entries_of c.args.records.now) c.args.held (record { active = c.in_ok-active.active; journal = c.in_ok-journal.journal })
     c.lay.ensures.others
     (fit_there c.args.image c.finish_pages.result (length (laid (entries_of c.args.records.now)) + c.args.held) c.finish_pages.ensures.begins c.finish_pages.ensures.ends c.finish_pages.ensures.some c.in_ok-journal.ensures.full)
-    (c.in_ok-journal.ensures.laid is.modelled_disk) c.in_ok-journal.ensures.region c.in_ok-journal.ensures.next
+    (c.in_ok-journal.ensures.laid is.modelled_disk) c.in_ok-journal.ensures.begins.region_is c.in_ok-journal.ensures.begins.next
     (c.in_ok-active.ensures.active base (laid_writing base (store_of c.args.active.now) c.args.image g.D.Disk.is_modelled (g.D.Disk.life c.args.disk.now) is c.finish_pages.result c.finish_pages.ensures.begins c.finish_pages.ensures.ends (g.D.Disk.life c.lay.new.disk) c.lay.ensures.within))
     c.in_ok-active.ensures.durable c.switch.ensures.others

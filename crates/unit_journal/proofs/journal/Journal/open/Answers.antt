@@ -15,7 +15,7 @@ returns-in_err-record-clause-reads g c honest =
     let same : c.from_residual.result ≡ Err c.in_err-record.field-0.0 = search rules in
     let P : Result (Journal × Vec Record Global) OpenError → Type 0 = λ r. ReadsRegion c.args.region g.D.Disk.is_modelled (g.D.Disk.life c.args.disk.now).seen (g.D.Disk.life c.read_record.new.disk) r in
     subst P (sym same) (next_error c.args.region g.D.Disk.is_modelled (g.D.Disk.life c.args.disk.now).seen (g.D.Disk.life c.loop-records.disk).seen (g.D.Disk.life c.read_record.new.disk) c.loop-records.at c.loop-records.records.items c.in_err-record.field-0.0
-    c.loop-records.invariant.stays.same (c.loop-records.invariant.so_far honest) c.loop-records.invariant.high c.requires.inside (c.in_err-record.ensures.next honest))
+    c.loop-records.invariant.stays.same (c.loop-records.invariant.so_far honest) c.loop-records.invariant.high c.requires.place.inside (c.in_err-record.ensures.next honest))
 
 pub returns-in_err-record-clause-whole : goal.returns-in_err-record-clause-whole
 returns-in_err-record-clause-whole g c es honest s =
@@ -45,7 +45,7 @@ returns-clause-reads g c honest =
     let image = (g.D.Disk.life c.args.disk.now).seen in
     let so_far = c.loop-records.invariant.so_far honest in
     let shut = next_none image (g.D.Disk.life c.loop-records.disk).seen c.loop-records.at (c.args.region.at + c.args.region.length) _ c.loop-records.invariant.stays.same c.in_default.is (c.in_ok-record.ensures.next honest) in
-    let stands = read_all c.args.region image c.loop-records.at c.loop-records.records.items so_far c.loop-records.invariant.high c.requires.inside shut in
+    let stands = read_all c.args.region image c.loop-records.at c.loop-records.records.items so_far c.loop-records.invariant.high c.requires.place.inside shut in
     (stands, opened g.D.Disk.is_modelled (g.D.Disk.life c.read_record.new.disk) image _ c.loop-records.records honest (Only-stays _ _ c.read_record.ensures.stays c.loop-records.invariant.durable) (c.read_record.ensures.stays.same ∙ c.loop-records.invariant.stays.same) so_far stands)
 
 pub returns-clause-found : goal.returns-clause-found

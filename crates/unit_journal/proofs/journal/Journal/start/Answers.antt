@@ -15,7 +15,7 @@ pub returns-clause-empty : goal.returns-clause-empty
 returns-clause-empty g c honest = record {
   modelled_disk = honest;
   durable = c.in_ok-write_through.ensures.durable;
-  stands = started c.args.region _ _ c.requires.some c.requires.inside (c.in_ok-write_through.ensures.written honest);
+  stands = started c.args.region _ _ c.requires.place.some c.requires.place.inside (c.in_ok-write_through.ensures.written honest);
   next = omega arith;
 }
 

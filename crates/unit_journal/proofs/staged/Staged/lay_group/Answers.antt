@@ -1,6 +1,6 @@
-use Rattle.std.proofs.Common.{◌+◌, ◌^◌, ◌<◌, ◌∙◌, length, refl, sym, arith}
+use Rattle.std.proofs.Common.{◌+◌, length, refl, arith}
 use Rattle.drda_disk.proofs.Parts.{Torn-wider}
-use Rattle.unit_journal.specs.Record.{AreShort, laid}
+use Rattle.unit_journal.specs.Record.{AreShort}
 use Rattle.unit_journal.proofs.Laying.{short_all}
 use Rattle.unit_journal.proofs.Staging.{laying, was_laid}
 use Rattle.unit_journal.proofs.staged.Staged.lay_group.Goals as goal
