@@ -26,11 +26,7 @@ fn change(alloc: Global, table: &mut TableMap, key: u8, length: usize) -> Result
 }
 
 // The key of the first row of the page at an offset.
-fn first_key<D: Disk>(
-    alloc: Global,
-    pager: &mut Pager<D>,
-    at: usize,
-) -> Result<Vec<u8>, PageFault>
+fn first_key<D: Disk>(alloc: Global, pager: &mut Pager<D>, at: usize) -> Result<Vec<u8>, PageFault>
     requires { at + 8192 ≤ length (D.life pager.old).seen }
     ensures { Stays (D.life pager.old) (D.life pager.new) }
 {

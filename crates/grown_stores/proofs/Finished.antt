@@ -82,9 +82,9 @@ module _ (old mid : List ℕ) (active : Active) (ready : IsReady old mid active)
       let wider : h ≤ half_len (length image) = subst (λ n. h ≤ half_len n) (sym cut.size) ready.wider in
       let same : part image 8192 h ≡ part old at h = part_after mid image 8 8192 h cut.after (omega arith) ∙ ready.same in
       let page : part image 8192 8192 ≡ part old at 8192 =
-          sym (part-part image 8192 h 0 8192 ready.long) ∙ ap (λ (l : List ℕ). part l 0 8192) same ∙ part-part old at h 0 8192 ready.long ∙ ap (λ k. part old k 8192) (add-zero at) in
+      sym (part-part image 8192 h 0 8192 ready.long) ∙ ap (λ (l : List ℕ). part l 0 8192) same ∙ part-part old at h 0 8192 ready.long ∙ ap (λ k. part old k 8192) (add-zero at) in
       let shut : get_or image (8192 + half_len (length image)) 0 ≡ 0 =
-          ap (λ n. get_or image (8192 + half_len n) 0) cut.size ∙ byte_outside 0 8 (8192 + half_len (length mid)) mid image cut (inr (omega arith)) ∙ ready.shut in
+      ap (λ n. get_or image (8192 + half_len n) 0) cut.size ∙ byte_outside 0 8 (8192 + half_len (length mid)) mid image cut (inr (omega arith)) ∙ ready.shut in
       record {
         store = store_of active;
         was = ready.was;
