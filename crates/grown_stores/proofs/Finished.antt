@@ -1,5 +1,5 @@
 -- A store that stands on a disk, but for its mark, and with it.
-use Rattle.std.proofs.Common.{◌≡◌, ◌⊎◌, ◌∙◌, inl, inr, sym, ap, subst, ℕ, ◌+◌, ◌-◌, ◌<◌, ◌≤◌, Bool, true, false, List, length, take, get_or, Ok, refl, add-zero, arith}
+use Rattle.std.proofs.Common.{◌≡◌, ◌⊎◌, ◌∙◌, inl, inr, sym, ap, subst, ℕ, ◌+◌, ◌-◌, ◌<◌, ◌≤◌, Bool, true, false, List, length, take, get_or, Result, Ok, Err, OnOk, add-zero, arith}
 use Rattle.std.specs.Prelude.{IsTrue, bytes_eq, codes}
 use Rattle.std.proofs.lemmas.Bool.{and_parts}
 use Rattle.drda_words.specs.Place.{part}
@@ -16,7 +16,12 @@ use Rattle.half_store.proofs.Formatted.{HasHead, head_torn, small_size, unmarked
 use Rattle.half_store.proofs.Larger.{is_larger}
 use Rattle.grown_stores.specs.Growing.{IsGrown, IsMoved, IsNoneOrGrown}
 
-abbrev name_of : Active → List ℕ
+-- what holds at each success
+pub all_ok : {T E : Type 0} (r : Result T E) (A B P : Type 0) → OnOk r A → OnOk r B → (A → B → P) → OnOk r P
+all_ok (Ok x) A B P a b f = f a b
+all_ok (Err e) A B P a b f = tt
+
+abbrev pub name_of : Active → List ℕ
 name_of a = (store_of a).name
 
 -- All of a store but its mark stands there: a head, the bytes of the half that was active, and the closed gate of the second one.

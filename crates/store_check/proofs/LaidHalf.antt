@@ -23,7 +23,7 @@ use Rattle.tables.specs.View.{is_entry, is_store, is_table}
 use Rattle.table_map.specs.Table.{without_keys}
 use Rattle.half_store.specs.Writing.{from_of, next_of, pages_of}
 use Rattle.half_store.specs.declared.image.ImageWriter.{ImageWriter}
-use Rattle.checkpoint_writer.specs.Catalogue.{AreEntries, Entry, HaveNames, is_entry as is_catalogue_entry, rows_of}
+use Rattle.checkpoint_writer.specs.Catalogue.{AreEntries, Entry, is_entry as is_catalogue_entry, rows_of}
 use Rattle.checkpoint_writer.specs.Laying.{StandAt}
 use Rattle.store_check.specs.Checkpoint.{HasCheckpoint, at_keys, forms, store_on}
 use Rattle.store_check.specs.Half.{page_at, pages_over}
@@ -97,16 +97,6 @@ good_entries next (e ∷ tables) good small = (
   good_entries (next + pages_of_table e.1) tables (second_true (is_good e) (list_all is_good tables) good) (omega (arith, small)),
 )
 
-have_names : (next : ℕ) (tables : Store) → list_all is_good tables ≡ true → HaveNames (entries_from next tables)
-have_names next [] good = tt
-have_names next (e ∷ tables) good = (
-  first_true (is_name e.0) (is_table e.1) (first_true (is_good e) (list_all is_good tables) good),
-  have_names (next + pages_of_table e.1) tables (second_true (is_good e) (list_all is_good tables) good),
-)
-
-pub names_there : (es : List Entry) (tables : Store) → es ≡ entries_from 0 tables → is_store tables ≡ true → HaveNames es
-names_there es tables same h = subst (λ (l : List Entry). HaveNames l) (sym same) (have_names 0 tables (good_all tables h))
-
 -- ---- the store that they are
 
 keys_back : (schema : Schema) (rows : Rows) → list_all (is_entry schema) rows ≡ true → at_keys schema (values_of rows) ≡ rows
@@ -145,9 +135,6 @@ module _ (laying : Laying) (whole : WrittenHalfIsWhole) (old new : List ℕ) (w 
 
   catalogue_pages : pages_of after ≡ first + length (laid (rows_of es))
   catalogue_pages = omega (arith, next, from)
-
-  pub all_pages : pages_of after ≡ pages_of_tables tables + length (laid (rows_of (entries_from 0 tables)))
-  all_pages = omega (arith, catalogue_pages, count, ap (λ (l : List Entry). length (laid (rows_of l))) same)
 
   written_half : AllByRecursion IsShort (rows_of es) → StandAt kind.Catalogue new (next_of w) (laid (rows_of es)) → AllByRecursion (IsWritten forms new at) (laid_from at 0 tables) → IsWrittenHalf forms new (pages_with after first) (laid_from at 0 tables)
   written_half short stand written =

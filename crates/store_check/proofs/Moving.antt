@@ -1,5 +1,5 @@
 -- Tables one behind another, while pages are written behind them.
-use Rattle.std.proofs.Common.{◌≡◌, inl, ℕ, ◌+◌, ◌≤◌, true, ◌&&◌, List, [], ◌∷◌, ◌++◌, length, refl, sym, ap, ap₂, subst, ◌∙◌, arith, append_assoc, append-nil}
+use Rattle.std.proofs.Common.{◌≡◌, inl, ℕ, ◌+◌, ◌≤◌, true, ◌&&◌, List, [], ◌∷◌, ◌++◌, length, refl, sym, ap, ap₂, subst, ◌∙◌, arith, append_assoc}
 use Rattle.std.specs.Prelude.{Bool, IsTrue, Result, Err}
 use Rattle.std.specs.List.{AllByRecursion, list_all}
 use Rattle.std.specs.Map.{keys_of, values_of}
@@ -8,7 +8,7 @@ use Rattle.std.specs.Cmp.Lexicographic.{slice_cmp}
 use Rattle.drda_words.specs.Order.{rises}
 use Rattle.drda_disk.specs.Disk.{Torn}
 use Rattle.row_values.specs.Schema.{is_name}
-use Rattle.row_values.proofs.ValueLaws.{first_true, second_true}
+use Rattle.row_values.proofs.ValueLaws.{first_true}
 use Rattle.row_pages.specs.Laying.{laid}
 use Rattle.key_map.specs.RowForm.{row_form}
 use Rattle.tables.specs.Tables.{Store, Table}
@@ -24,7 +24,7 @@ use Rattle.checkpoint_writer.proofs.MergedRows.{at_moves, told_so}
 use Rattle.store_check.specs.Checkpoint.{forms}
 use Rattle.store_check.specs.Half.{page_at}
 use Rattle.store_check.specs.Written.{IsWritten}
-use Rattle.store_check.specs.Laying.{IsGood, laid_at, laid_from, rows_under}
+use Rattle.store_check.specs.Laying.{laid_at, laid_from, rows_under}
 use Rattle.store_check.specs.Room.{entries_from, entry_of_table, pages_of_table, pages_of_tables}
 use Rattle.store_check.proofs.Placing.{bare_under}
 
@@ -77,19 +77,12 @@ all_stay old new from n at next (e ∷ tables) torn low all = (
 
 -- ---- a store
 
--- a table in the middle of one
+-- a table of one
 abbrev pub is_good : List ℕ × Table → Bool
 is_good e = is_name e.0 && is_table e.1
 
 pub good_all : (tables : Store) → is_store tables ≡ true → list_all is_good tables ≡ true
 good_all tables h = first_true (list_all is_good tables) (rises (slice_cmp nat_cmp) (keys_of tables)) h
-
-middle : (done : Store) (e : List ℕ × Table) (rest : Store) → list_all is_good (done ++ e ∷ rest) ≡ true → is_good e ≡ true
-middle [] e rest h = first_true (is_good e) (list_all is_good rest) h
-middle (d ∷ done) e rest h = middle done e rest (second_true (is_good d) (list_all is_good (done ++ e ∷ rest)) h)
-
-pub good_middle : (done : Store) (e : List ℕ × Table) (rest all : Store) → done ++ e ∷ rest ≡ all → is_store all ≡ true → IsGood e
-good_middle done e rest all same h = middle done e rest (subst (λ (s : Store). list_all is_good s ≡ true) (sym same) (good_all all h))
 
 -- ---- no room
 
@@ -116,12 +109,6 @@ pub none_yet : (modelled : Bool) (file : List ℕ) (w : ImageWriter) (places : L
 none_yet modelled file w places all none empty = record { done = []; same = refl; places = empty; pages = none; written = λ honest. tt }
 
 module _ (modelled : Bool) (file : List ℕ) (begun image : ImageWriter) (places : List Entry) (left all : Store) (held : IsSoFar modelled file begun image places left all) where
-  pub all_done : left ≡ [] → held.done ≡ all
-  all_done none = sym (append-nil held.done) ∙ ap (λ (s : Store). held.done ++ s) (sym none) ∙ held.same
-
-  pub good_left : (e : List ℕ × Table) (rest : Store) → left ≡ e ∷ rest → is_store all ≡ true → IsGood e
-  good_left e rest is h = good_middle held.done e rest all (ap (λ (s : Store). held.done ++ s) (sym is) ∙ held.same) h
-
   pub room_left : (e : List ℕ × Table) (rest : Store) → left ≡ e ∷ rest → pages_of image + pages_of_table e.1 ≤ pages_of_tables all
   room_left e rest is = omega (arith, held.pages, ap pages_of_tables (ap (λ (s : Store). held.done ++ s) (sym is) ∙ held.same), pages_more held.done e rest)
 

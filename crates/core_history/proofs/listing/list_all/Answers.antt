@@ -1,4 +1,4 @@
-use Rattle.std.proofs.Common.{◌≡◌, ◌≤◌, ◌+◌, ◌∷◌, ◌++◌, ℕ, List, Option, Some, drop, length, slice_get, append_assoc, refl, sym, ap, subst, ◌∙◌}
+use Rattle.std.proofs.Common.{◌≡◌, ◌≤◌, ◌+◌, ◌∷◌, ◌++◌, ℕ, List, Option, Some, drop, length, slice_get, append_assoc, refl, sym, ap, subst, ◌∙◌, arith}
 use Rattle.std.proofs.lemmas.Option.{slice_get_read}
 use Rattle.serializability.specs.Answered.{AnsweredCall}
 use Rattle.core_history.specs.declared.count.Count.{Count}
@@ -8,6 +8,13 @@ use Rattle.core_history.specs.Gathered.{all_counted, all_left, all_listed, count
 use Rattle.core_history.proofs.Counting.{set_length}
 use Rattle.core_history.proofs.Members.{known_still, rest_is}
 use Rattle.core_history.proofs.listing.list_all.Goals as goal
+
+pub list_one-requires-clause-numbered : goal.list_one-requires-clause-numbered
+list_one-requires-clause-numbered c =
+    let members = c.args.members.now in
+    let w = c.member-item.result in
+    let here : slice_get members c.loop-member.member-index ≡ Some w = slice_get_read members (length members) c.loop-member.member-index w refl c.loop-member-test.true c.member-item.is in
+    omega (arith, (c.requires.known c.loop-member.member-index w here).numbered)
 
 pub loop-member-preserved : goal.loop-member-preserved
 loop-member-preserved c =
