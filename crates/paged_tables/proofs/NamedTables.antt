@@ -18,7 +18,7 @@ use Rattle.tables.specs.Change.{create}
 use Rattle.tables.specs.Tables.{Store, Table, apply, schema_of, table_of, with_table}
 use Rattle.tables.proofs.Finding.{found_put, itself, same_bytes}
 use Rattle.tables.proofs.Changes.{names_apart}
-use Rattle.paged_tables.proofs.Pages.{IsBare, pages_added, pages_set, pages_stay_themselves}
+use Rattle.paged_tables.proofs.Pages.{IsBare, pages_added, pages_set}
 use Rattle.paged_tables.specs.Stored.{KeepsPages, Stored, created_table, shown}
 use Rattle.paged_tables.specs.TablesByName.{Grows, Tables, named, schema_after, schema_at, shown_entry, store_of, tables_in}
 

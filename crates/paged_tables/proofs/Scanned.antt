@@ -1,5 +1,5 @@
 -- Rows that pages have given and that were judged, with a table's changes among them, are rows of its schema in order.
-use Rattle.std.proofs.Common.{◌≡◌, ℕ, List, [], ◌∷◌, ◌++◌, Bool, true, false, refl, sym, ap, subst, ◌∙◌, map, Option, Some, None, cond, Ordering, Less, Equal, Greater, inl, inr}
+use Rattle.std.proofs.Common.{◌≡◌, ℕ, List, [], ◌∷◌, ◌++◌, Bool, true, refl, sym, ap, subst, ◌∙◌, map, Option, Some, None, cond, Ordering, Less, Equal, Greater, inl, inr}
 use Rattle.std.specs.Prelude.{Ok, Err, IfOk, IfSome, IsTrue, bytes_eq}
 use Rattle.std.specs.Global.{Vec}
 use Rattle.std.specs.List.{AllByRecursion, list_all}
@@ -13,9 +13,9 @@ use Rattle.drda_words.specs.Order.{rises}
 use Rattle.key_map.specs.Merging.{Changes, InOrder, Rows, changed, keyed, merged, over, row_at}
 use Rattle.key_map.specs.Overlay.{changes_of}
 use Rattle.key_map.specs.RowForm.{row_form}
-use Rattle.key_map.specs.Slots.{by_bytes, by_key}
+use Rattle.key_map.specs.Slots.{by_bytes}
 use Rattle.key_map.proofs.Merged.{merged_found, merged_order}
-use Rattle.row_pages.specs.Judging.{AreJudged, do_rise}
+use Rattle.row_pages.specs.Judging.{do_rise}
 use Rattle.row_values.specs.Schema.{Schema, is_schema}
 use Rattle.row_values.specs.Row.{is_row}
 use Rattle.row_values.specs.Key.{key_cmp, row_key}

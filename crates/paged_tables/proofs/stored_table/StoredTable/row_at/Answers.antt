@@ -1,5 +1,5 @@
 -- The row at a form, behind the changes.
-use Rattle.std.proofs.Common.{◌≡◌, IfOk, ℕ, List, true, ap, subst, sym, ◌∙◌}
+use Rattle.std.proofs.Common.{◌≡◌, IfOk, true, ap, subst, sym, ◌∙◌}
 use Rattle.std.specs.Arc.{arc_value}
 use Rattle.key_map.specs.Merging.{row_at}
 use Rattle.key_map.specs.RowForm.{row_form}
