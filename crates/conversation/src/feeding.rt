@@ -67,7 +67,8 @@ pub fn feed_all<A: Ask>(front: &mut Front, asker: &mut A, piece: &[u8], out: &mu
 }
 
 /// The same, until `out` is longer than `most` bytes behind a command: so it never has more than these and the replies
-/// to one command. What was taken of the piece was heard as `feed_all` hears a piece; the rest is to be fed again.
+/// to one command. What was taken of the piece was heard as `feed_all` hears a piece; the rest is to be fed again. Whoever
+/// is asked rests behind it, since a stream may be waited for next.
 pub fn feed_some<A: Ask>(
     front: &mut Front,
     asker: &mut A,
@@ -87,30 +88,33 @@ pub fn feed_some<A: Ask>(
     let mut at = 0;
     'feeding: loop {
         let Ok(()) = out.reserve(21) else {
-            return so_far(at, Heard::NoMemory);
+            return so_far(asker, at, Heard::NoMemory);
         };
         let fed = hand_on(front, asker, &piece[at..], out);
         at += fed.taken;
         match fed.state {
             FedState::Open => {
                 if at == piece.len() || out.len() > most {
-                    return so_far(at, Heard::Open);
+                    return so_far(asker, at, Heard::Open);
                 }
             }
-            FedState::Closed => return so_far(at, Heard::Closed),
-            FedState::Later => return so_far(at, Heard::NoMemory),
+            FedState::Closed => return so_far(asker, at, Heard::Closed),
+            FedState::Later => return so_far(asker, at, Heard::NoMemory),
             FedState::Short(reply) => match out.extend_from_slice(&reply) {
                 Ok(()) => {}
-                Err(_) => return so_far(at, Heard::NoMemory),
+                Err(_) => return so_far(asker, at, Heard::NoMemory),
             },
         }
     }
 }
 
+// So much was heard, and whoever is asked rests.
 #[inline(always)]
-fn so_far(taken: usize, heard: Heard) -> HeardSome
-    ensures { result ≡ record { taken = taken; heard = heard } }
+fn so_far<A: Ask>(asker: &mut A, taken: usize, heard: Heard) -> HeardSome
+    ensures told { result ≡ record { taken = taken; heard = heard } }
+    ensures rests { asker.new ≡ asker.old }
 {
+    asker.rest();
     HeardSome { taken, heard }
 }
 

@@ -9,7 +9,7 @@ ghost use Rattle.stream_service.specs.Serving.{AnswersPiece, Converses, CountsWr
 
 use crate::host::Host;
 use command_kit::Ask;
-use conversation::{Access, Budget, Front, Heard, HeardSome, feed_some};
+use conversation::{Access, Budget, Front, Heard, feed_some};
 use core_calls::CoreCall;
 use counted_streams::{Reader, Writer};
 use dss_frames::stays_read;
@@ -153,7 +153,7 @@ fn answer_piece<A: Ask, W: Write, H: Host>(
     let mut taken = 0;
     'hearing: loop {
         let most = most_gathered(front.access());
-        let part = hear(front, asker, &piece[taken..], most, replies);
+        let part = feed_some(front, asker, &piece[taken..], most, replies);
         taken += part.taken;
         show(front.access(), replies, host);
         let Ok(()) = writer.write_whole(replies) else {
@@ -172,29 +172,7 @@ fn answer_piece<A: Ask, W: Write, H: Host>(
     }
 }
 
-// The same as `feed_some`; then nothing is kept that others wait for.
-fn hear<A: Ask>(
-    front: &mut Front,
-    asker: &mut A,
-    piece: &[u8],
-    most: usize,
-    out: &mut Vec<u8>,
-) -> HeardSome
-    requires { IsBetweenCommands front.old }
-    ensures settled { IsBetweenCommands front.new }
-    ensures settings { front.new.settings ≡ front.old.settings }
-    ensures within { result.taken ≤ length piece.now }
-    ensures hears { HearsPiece A.asks front.old.settings (attended_by front.old asker.old) (take result.taken piece.now) out.old.items result.heard (attended_by front.new asker.new) out.new.items }
-    ensures goes_on { result.heard ≡ Open → 1 ≤ length piece.now → 1 ≤ result.taken }
-{
-    let part = feed_some(front, asker, piece, most, out);
-    asker.rest();
-    part
-}
-
-ghost use Rattle.std.specs.Prelude.{◌≤◌, ◌++◌, [], None, IfOk, drop, length, replicate, take};
-ghost use Rattle.conversation.specs.Pieces.{HearsPiece};
-ghost use Rattle.conversation.specs.declared.fed.Heard.TheVariants.{Open};
+ghost use Rattle.std.specs.Prelude.{◌≤◌, ◌++◌, [], None, IfOk, drop, length, replicate};
 
 // So many bytes of answers are gathered before they are written. A conversation without a database is shown answer by answer.
 fn most_gathered(access: Access) -> usize {

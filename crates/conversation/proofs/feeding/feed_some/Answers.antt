@@ -1,16 +1,28 @@
 use Rattle.std.proofs.Common.{◌≡◌, ◌+◌, ℕ, List, [], length, take, ap, sym, subst, ◌∙◌, refl, inl, inr, arith, rules}
 use Rattle.std.proofs.lemmas.List.{take_rest}
+use Rattle.core_calls.specs.Answer.{Answer}
+use Rattle.core_calls.specs.Call.{Call}
+use Rattle.session_commands.specs.Settings.{Settings}
+use Rattle.conversation.specs.Held.{Held}
 use Rattle.conversation.specs.declared.fed.FedState.{FedState}
 use Rattle.conversation.specs.declared.fed.FedState.TheVariants.{Later}
 use Rattle.conversation.specs.declared.fed.Heard.TheVariants as heard_as
 use Rattle.conversation.specs.declared.fed.HeardSome.{HeardSome}
-use Rattle.conversation.specs.Attended.{attended_by}
+use Rattle.conversation.specs.Attended.{Attended, attended_by}
 use Rattle.conversation.specs.Hearing.{IsShortReply}
 use Rattle.conversation.specs.Feeding.{Told, bytes_behind}
 use Rattle.conversation.specs.Pieces.{HearsPiece}
 use Rattle.conversation.proofs.Stepping.{told_start, within_piece}
 use Rattle.conversation.proofs.Listening.{all, further, last, part, said_behind}
 use Rattle.conversation.proofs.feeding.feed_some.Goals as goal
+
+-- whoever is asked has rested
+rested : {A : Type 0} (asks : A → Call → Answer → A → Type 0) (settings : Settings) (a : Attended A) (front : Held) (asker asker' : A) (piece out out' : List ℕ) (so_far told : HeardSome)
+    → told ≡ so_far → asker' ≡ asker → HearsPiece asks settings a (take so_far.taken piece) out so_far.heard (attended_by front asker) out'
+    → HearsPiece asks settings a (take told.taken piece) out told.heard (attended_by front asker') out'
+rested asks settings a front asker asker' piece out out' so_far told is same heard =
+    subst (λ (r : HeardSome). HearsPiece asks settings a (take r.taken piece) out r.heard (attended_by front asker') out') (sym is)
+    (subst (λ (x : _). HearsPiece asks settings a (take so_far.taken piece) out so_far.heard (attended_by front x) out') (sym same) heard)
 
 pub feeding-init : goal.feeding-init
 feeding-init g c = record {
@@ -29,7 +41,7 @@ returns-in_default-clause-hears g c =
     let piece = c.args.piece.now in
     let out = c.args.out.now.items in
     let told = subst (λ (z : List ℕ). Told asks settings a (take c.feeding.at piece) out [] b z) (sym c.reserve.ensures.items) c.feeding.invariant.heard in
-    subst (λ (r : HeardSome). HearsPiece asks settings a (take r.taken piece) out r.heard b c.reserve.new.self.items) (sym c.so_far.ensures)
+    rested asks settings a c.feeding.front c.feeding.asker c.so_far.new.asker piece out c.reserve.new.self.items _ c.so_far.result c.so_far.ensures.told c.so_far.ensures.rests
     (part asks settings a b (take c.feeding.at piece) out c.reserve.new.self.items Later told (inl refl))
 
 pub returns-then-at-piece-clause-hears : goal.returns-then-at-piece-clause-hears
@@ -47,7 +59,7 @@ returns-then-at-piece-clause-hears g c =
     let count = c.feeding.at + fed.taken in
     let told : Told asks settings a (take count piece) out (bytes_behind fed.state) new out2 =
     further asks settings c.stays_read.ensures.fault a b new piece out c.feeding.out.items out1 out2 c.feeding.at fed c.feeding.front.settings c.feeding.invariant.settings c.reserve.ensures.items c.feeding.invariant.heard (rw take_rest at c.hand_on-fed.ensures.takes) in
-    subst (λ (r : HeardSome). HearsPiece asks settings a (take r.taken piece) out r.heard new out2) (sym c.so_far-then-at-piece.ensures)
+    rested asks settings a c.hand_on-fed.new.front c.hand_on-fed.new.asker c.so_far-then-at-piece.new.asker piece out out2 _ c.so_far-then-at-piece.result c.so_far-then-at-piece.ensures.told c.so_far-then-at-piece.ensures.rests
     (all asks settings a new (take count piece) out out2 fed.taken fed.state told c.hand_on-fed.ensures.takes.state c.in-Open.is)
 
 pub feeding-preserved-in-Open : goal.feeding-preserved-in-Open
@@ -87,7 +99,7 @@ returns-in-Closed-clause-hears g c =
     let count = c.feeding.at + fed.taken in
     let told : Told asks settings a (take count piece) out (bytes_behind fed.state) new out2 =
     further asks settings c.stays_read.ensures.fault a b new piece out c.feeding.out.items out1 out2 c.feeding.at fed c.feeding.front.settings c.feeding.invariant.settings c.reserve.ensures.items c.feeding.invariant.heard (rw take_rest at c.hand_on-fed.ensures.takes) in
-    subst (λ (r : HeardSome). HearsPiece asks settings a (take r.taken piece) out r.heard new out2) (sym c.so_far-in-Closed.ensures)
+    rested asks settings a c.hand_on-fed.new.front c.hand_on-fed.new.asker c.so_far-in-Closed.new.asker piece out out2 _ c.so_far-in-Closed.result c.so_far-in-Closed.ensures.told c.so_far-in-Closed.ensures.rests
     (last asks settings c.stays_read.ensures.fault a new (take count piece) out out2 fed.taken fed.state told c.hand_on-fed.ensures.takes.state c.in-Closed.is)
 
 pub returns-in-Later-clause-hears : goal.returns-in-Later-clause-hears
@@ -105,7 +117,7 @@ returns-in-Later-clause-hears g c =
     let count = c.feeding.at + fed.taken in
     let told : Told asks settings a (take count piece) out (bytes_behind fed.state) new out2 =
     further asks settings c.stays_read.ensures.fault a b new piece out c.feeding.out.items out1 out2 c.feeding.at fed c.feeding.front.settings c.feeding.invariant.settings c.reserve.ensures.items c.feeding.invariant.heard (rw take_rest at c.hand_on-fed.ensures.takes) in
-    subst (λ (r : HeardSome). HearsPiece asks settings a (take r.taken piece) out r.heard new out2) (sym c.so_far-in-Later.ensures)
+    rested asks settings a c.hand_on-fed.new.front c.hand_on-fed.new.asker c.so_far-in-Later.new.asker piece out out2 _ c.so_far-in-Later.result c.so_far-in-Later.ensures.told c.so_far-in-Later.ensures.rests
     (part asks settings a new (take count piece) out out2 fed.state told (inl (ap bytes_behind c.in-Later.is)))
 
 pub feeding-preserved : goal.feeding-preserved
@@ -147,6 +159,6 @@ returns-in-Err-clause-hears g c =
     further asks settings c.stays_read.ensures.fault a b new piece out c.feeding.out.items out1 out2 c.feeding.at fed c.feeding.front.settings c.feeding.invariant.settings c.reserve.ensures.items c.feeding.invariant.heard (rw take_rest at c.hand_on-fed.ensures.takes) in
     let behind : bytes_behind fed.state ≡ c.in-Short.reply = ap bytes_behind c.in-Short.is in
     let short : length c.in-Short.reply ≡ 16 = search rules in
-    subst (λ (r : HeardSome). HearsPiece asks settings a (take r.taken piece) out r.heard new c.extend_from_slice.new.self.items) (sym c.so_far-in-Err.ensures)
+    rested asks settings a c.hand_on-fed.new.front c.hand_on-fed.new.asker c.so_far-in-Err.new.asker piece out c.extend_from_slice.new.self.items _ c.so_far-in-Err.result c.so_far-in-Err.ensures.told c.so_far-in-Err.ensures.rests
     (subst (λ (z : List ℕ). HearsPiece asks settings a (take count piece) out heard_as.NoMemory new z) (sym c.in-Err.ensures.items)
     (part asks settings a new (take count piece) out out2 fed.state told (inr (subst (λ (z : List ℕ). IsShortReply z) (sym behind) short))))

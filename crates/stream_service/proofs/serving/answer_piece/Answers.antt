@@ -40,21 +40,21 @@ returns-in_default-clause-answers g c =
     let settings = c.args.front.now.settings in
     let first = attended_by c.args.front.now c.args.asker.now in
     let mid = attended_by c.hearing.front c.hearing.asker in
-    let last = attended_by c.hear-part.new.front c.hear-part.new.asker in
+    let last = attended_by c.feed_some-part.new.front c.feed_some-part.new.asker in
     let piece = c.args.piece.now in
     let taken = c.hearing.taken in
-    let part = c.hear-part.result in
+    let part = c.feed_some-part.result in
     let here = take part.taken (drop taken piece) in
     let left = drop taken piece in
     let left' = drop (taken + part.taken) piece in
-    let out' = c.hear-part.new.out.items in
+    let out' = c.feed_some-part.new.out.items in
     let w0 = g.W.Write.contents (sink_of c.args.writer.now) in
     let w = g.W.Write.contents (sink_of c.hearing.writer) in
     let w' = g.W.Write.contents (sink_of c.write_whole.new.self) in
     let more_fault = c.stays_read.ensures.fault in
     let split : left ≡ here ++ left' = cut taken part.taken piece in
     let hears : HearsPiece asks settings mid here [] part.heard last out' =
-    heard_from asks c.hearing.front.settings settings mid last here c.hearing.replies.items out' part.heard c.hearing.invariant.settings c.hearing.invariant.empty (rw take_rest at c.hear-part.ensures.hears) in
+    heard_from asks c.hearing.front.settings settings mid last here c.hearing.replies.items out' part.heard c.hearing.invariant.settings c.hearing.invariant.empty (rw take_rest at c.feed_some-part.ensures.hears) in
     let wrote = subst (λ (z : List ℕ). (count : ℕ) × Appends w w' (take count z)) c.deref.ensures.value c.in_default.ensures.err in
     front_more asks settings more_fault first mid last piece left here left' w0 w w' c.hearing.invariant.talked split
     (said_front asks settings mid last here out' w w' (in_part asks part.heard settings mid last here [] out' hears) wrote)
@@ -65,21 +65,21 @@ returns-then-taken-piece-clause-answers g c =
     let settings = c.args.front.now.settings in
     let first = attended_by c.args.front.now c.args.asker.now in
     let mid = attended_by c.hearing.front c.hearing.asker in
-    let last = attended_by c.hear-part.new.front c.hear-part.new.asker in
+    let last = attended_by c.feed_some-part.new.front c.feed_some-part.new.asker in
     let piece = c.args.piece.now in
     let taken = c.hearing.taken in
-    let part = c.hear-part.result in
+    let part = c.feed_some-part.result in
     let here = take part.taken (drop taken piece) in
     let left = drop taken piece in
     let left' = drop (taken + part.taken) piece in
-    let out' = c.hear-part.new.out.items in
+    let out' = c.feed_some-part.new.out.items in
     let w0 = g.W.Write.contents (sink_of c.args.writer.now) in
     let w = g.W.Write.contents (sink_of c.hearing.writer) in
     let w' = g.W.Write.contents (sink_of c.write_whole.new.self) in
     let more_fault = c.stays_read.ensures.fault in
     let split : left ≡ here ++ left' = cut taken part.taken piece in
     let hears : HearsPiece asks settings mid here [] part.heard last out' =
-    heard_from asks c.hearing.front.settings settings mid last here c.hearing.replies.items out' part.heard c.hearing.invariant.settings c.hearing.invariant.empty (rw take_rest at c.hear-part.ensures.hears) in
+    heard_from asks c.hearing.front.settings settings mid last here c.hearing.replies.items out' part.heard c.hearing.invariant.settings c.hearing.invariant.empty (rw take_rest at c.feed_some-part.ensures.hears) in
     let wrote : Appends w w' out' = subst (λ (z : List ℕ). Appends w w' z) c.deref.ensures.value c.in-Ok.ensures.ok in
     let opened = subst (λ (s : Heard). HearsPiece asks settings mid here [] s last out') c.in-Open.is hears in
     talked_all asks settings first last piece left' w0 w'
@@ -92,28 +92,28 @@ hearing-preserved g c =
     let settings = c.args.front.now.settings in
     let first = attended_by c.args.front.now c.args.asker.now in
     let mid = attended_by c.hearing.front c.hearing.asker in
-    let last = attended_by c.hear-part.new.front c.hear-part.new.asker in
+    let last = attended_by c.feed_some-part.new.front c.feed_some-part.new.asker in
     let piece = c.args.piece.now in
     let taken = c.hearing.taken in
-    let part = c.hear-part.result in
+    let part = c.feed_some-part.result in
     let here = take part.taken (drop taken piece) in
     let left = drop taken piece in
     let left' = drop (taken + part.taken) piece in
-    let out' = c.hear-part.new.out.items in
+    let out' = c.feed_some-part.new.out.items in
     let w0 = g.W.Write.contents (sink_of c.args.writer.now) in
     let w = g.W.Write.contents (sink_of c.hearing.writer) in
     let w' = g.W.Write.contents (sink_of c.write_whole.new.self) in
     let more_fault = c.stays_read.ensures.fault in
     let split : left ≡ here ++ left' = cut taken part.taken piece in
     let hears : HearsPiece asks settings mid here [] part.heard last out' =
-    heard_from asks c.hearing.front.settings settings mid last here c.hearing.replies.items out' part.heard c.hearing.invariant.settings c.hearing.invariant.empty (rw take_rest at c.hear-part.ensures.hears) in
+    heard_from asks c.hearing.front.settings settings mid last here c.hearing.replies.items out' part.heard c.hearing.invariant.settings c.hearing.invariant.empty (rw take_rest at c.feed_some-part.ensures.hears) in
     let wrote : Appends w w' out' = subst (λ (z : List ℕ). Appends w w' z) c.deref.ensures.value c.in-Ok.ensures.ok in
     let opened = subst (λ (s : Heard). HearsPiece asks settings mid here [] s last out') c.in-Open.is hears in
     record {
-      within = within_piece piece taken _ part.taken c.hearing.invariant.within c.hear-part.ensures.within;
+      within = within_piece piece taken _ part.taken c.hearing.invariant.within c.feed_some-part.ensures.within;
       empty = c.empty.ensures;
-      settled = c.hear-part.ensures.settled;
-      settings = c.hear-part.ensures.settings ∙ c.hearing.invariant.settings;
+      settled = c.feed_some-part.ensures.settled;
+      settings = c.feed_some-part.ensures.settings ∙ c.hearing.invariant.settings;
       talked = talked_more asks settings more_fault first mid last piece left here left' w0 w w' c.hearing.invariant.talked split (said_all asks settings mid last here out' w w' opened wrote);
       faults = c.in-Ok.ensures.faults ∙ c.hearing.invariant.faults;
     }
@@ -124,21 +124,21 @@ returns-in-Closed-clause-answers g c =
     let settings = c.args.front.now.settings in
     let first = attended_by c.args.front.now c.args.asker.now in
     let mid = attended_by c.hearing.front c.hearing.asker in
-    let last = attended_by c.hear-part.new.front c.hear-part.new.asker in
+    let last = attended_by c.feed_some-part.new.front c.feed_some-part.new.asker in
     let piece = c.args.piece.now in
     let taken = c.hearing.taken in
-    let part = c.hear-part.result in
+    let part = c.feed_some-part.result in
     let here = take part.taken (drop taken piece) in
     let left = drop taken piece in
     let left' = drop (taken + part.taken) piece in
-    let out' = c.hear-part.new.out.items in
+    let out' = c.feed_some-part.new.out.items in
     let w0 = g.W.Write.contents (sink_of c.args.writer.now) in
     let w = g.W.Write.contents (sink_of c.hearing.writer) in
     let w' = g.W.Write.contents (sink_of c.write_whole.new.self) in
     let more_fault = c.stays_read.ensures.fault in
     let split : left ≡ here ++ left' = cut taken part.taken piece in
     let hears : HearsPiece asks settings mid here [] part.heard last out' =
-    heard_from asks c.hearing.front.settings settings mid last here c.hearing.replies.items out' part.heard c.hearing.invariant.settings c.hearing.invariant.empty (rw take_rest at c.hear-part.ensures.hears) in
+    heard_from asks c.hearing.front.settings settings mid last here c.hearing.replies.items out' part.heard c.hearing.invariant.settings c.hearing.invariant.empty (rw take_rest at c.feed_some-part.ensures.hears) in
     let wrote : Appends w w' out' = subst (λ (z : List ℕ). Appends w w' z) c.deref.ensures.value c.in-Ok.ensures.ok in
     let closed = subst (λ (s : Heard). HearsPiece asks settings mid here [] s last out') c.in-Closed.is hears in
     last_more asks settings more_fault first mid last piece left here left' w0 w w' c.hearing.invariant.talked split (said_last asks settings mid last here out' w w' closed wrote)
@@ -149,21 +149,21 @@ returns-in-NoMemory-clause-answers g c =
     let settings = c.args.front.now.settings in
     let first = attended_by c.args.front.now c.args.asker.now in
     let mid = attended_by c.hearing.front c.hearing.asker in
-    let last = attended_by c.hear-part.new.front c.hear-part.new.asker in
+    let last = attended_by c.feed_some-part.new.front c.feed_some-part.new.asker in
     let piece = c.args.piece.now in
     let taken = c.hearing.taken in
-    let part = c.hear-part.result in
+    let part = c.feed_some-part.result in
     let here = take part.taken (drop taken piece) in
     let left = drop taken piece in
     let left' = drop (taken + part.taken) piece in
-    let out' = c.hear-part.new.out.items in
+    let out' = c.feed_some-part.new.out.items in
     let w0 = g.W.Write.contents (sink_of c.args.writer.now) in
     let w = g.W.Write.contents (sink_of c.hearing.writer) in
     let w' = g.W.Write.contents (sink_of c.write_whole.new.self) in
     let more_fault = c.stays_read.ensures.fault in
     let split : left ≡ here ++ left' = cut taken part.taken piece in
     let hears : HearsPiece asks settings mid here [] part.heard last out' =
-    heard_from asks c.hearing.front.settings settings mid last here c.hearing.replies.items out' part.heard c.hearing.invariant.settings c.hearing.invariant.empty (rw take_rest at c.hear-part.ensures.hears) in
+    heard_from asks c.hearing.front.settings settings mid last here c.hearing.replies.items out' part.heard c.hearing.invariant.settings c.hearing.invariant.empty (rw take_rest at c.feed_some-part.ensures.hears) in
     let wrote : Appends w w' out' = subst (λ (z : List ℕ). Appends w w' z) c.deref.ensures.value c.in-Ok.ensures.ok in
     let short = subst (λ (s : Heard). HearsPiece asks settings mid here [] s last out') c.in-NoMemory.is hears in
     short_more asks settings more_fault first mid last piece left here left' w0 w w' c.hearing.invariant.talked split (said_short asks settings mid last here out' w w' short wrote)
