@@ -1,6 +1,6 @@
 //! Who records what becomes of units here.
 
-use unit_records::{GroupError, RecordContents, RecordError, Recorder};
+use unit_records::{DeviceFailed, GroupError, RecordContents, RecordError, Recorder};
 
 /// Refuses commits of more changes than there is room for, and counts the records that it makes.
 #[derive(Drop)]
@@ -56,6 +56,30 @@ impl Recorder for Room {
         self.records = self.records.wrapping_add(sayings.len());
         Ok(())
     }
+
+    ghost allows_lay = { λ _ _. Unit {0} };
+
+    ghost lays = { λ _ _ _. Unit {0} };
+
+    ghost fails_to_lay = { λ _ _ _. Unit {0} };
+
+    fn lay_all(&mut self, _sayings: &[RecordContents<'_>]) -> Result<(), GroupError> {
+        Err(GroupError::Refused)
+    }
+
+    ghost allows_open = { λ _. Unit {0} };
+
+    ghost opens = { λ _ _. Unit {0} };
+
+    ghost fails_to_open = { λ _ _. Unit {0} };
+
+    fn open_laid(&mut self) -> Result<(), DeviceFailed> {
+        Ok(())
+    }
+
+    ghost drops = { λ _ _. Unit {0} };
+
+    fn drop_laid(&mut self) {}
 }
 
 // Whether each of them is made where a commit may have so many changes.

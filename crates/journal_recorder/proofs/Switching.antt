@@ -101,6 +101,7 @@ module _ {D : Type 0} (modelled : Bool) (life : D → Life) (old mid : DiskRecor
   same_stays : StaysOn modelled life mid new → StaysOn modelled life old new
   same_stays s = record {
     size = s.size ∙ ap (λ (l : List ℕ). length l) seen;
+    rest = s.rest;
     made = s.made ∙ made;
   }
 

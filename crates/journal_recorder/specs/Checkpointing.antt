@@ -10,12 +10,13 @@ use Rattle.tables.specs.Tables.{Store as Tables}
 use Rattle.unit_journal.specs.Journal.{IsSettled, held_of, region_of, room_of}
 use Rattle.unit_journal.specs.declared.journal.Journal.{Journal}
 use Rattle.unit_journal.specs.Record.{Entry}
+use Rattle.unit_journal.specs.Staged.{IsAtRest}
 use Rattle.unit_records.specs.Records.{UnitRecord}
 use Rattle.unit_records.specs.Room.{held, taken}
 use Rattle.store_check.specs.Holds.{half_end, journal_at}
 use Rattle.store_check.specs.Moment.{GoesOn, IsNew, Moment, Rests}
 use Rattle.store_check.specs.Room.{need_of}
-use Rattle.journal_recorder.specs.Recording.{disk_of, has_failed, journal_of, layout_of, made_of}
+use Rattle.journal_recorder.specs.Recording.{disk_of, has_failed, journal_of, layout_of, made_of, staged_of}
 use Rattle.journal_recorder.specs.declared.checkpointing.CheckpointError.{CheckpointError}
 use Rattle.journal_recorder.specs.declared.checkpointing.CheckpointError.TheVariants.{DeviceFailed, Full, NoMemory}
 use Rattle.journal_recorder.specs.declared.recorder.DiskRecorder.{DiskRecorder}
@@ -50,9 +51,10 @@ module _ {D : Type 0} (modelled : Bool) (life : D → Life) where
   abbrev pub LeavesOldOrNew : DiskRecorder D → Tables → List Entry → ℕ → DiskRecorder D → Type 0
   LeavesOldOrNew old tables es hold new = OfStore old (λ store. LeavesOnly (disk_life old) (disk_life new) (Moment (disk_life old).seen store tables es hold))
 
-  -- the records that were made stay, and so does the size of the disk
+  -- the records that were made stay, and so does the size of the disk; no group is on its way
   pub record StaysOn (old new : DiskRecorder D) : Type 0 where
     pub size : length (disk_life new).seen ≡ length (disk_life old).seen
+    pub rest : IsAtRest (staged_of new)
     pub made : made_of new ≡ made_of old
 
   -- what is recorded next stands in layout 2

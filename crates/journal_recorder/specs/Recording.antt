@@ -7,6 +7,8 @@ use Rattle.half_store.specs.declared.header.Layout.{Layout}
 use Rattle.unit_journal.specs.declared.journal.Journal.{Journal}
 use Rattle.unit_journal.specs.Journal.{IsSettled, held_of, region_of, room_of}
 use Rattle.unit_journal.specs.Record.{Entry}
+use Rattle.unit_journal.specs.Staged.{IsAtRest}
+use Rattle.unit_journal.specs.declared.staged.Staged.{Staged}
 use Rattle.unit_journal.specs.Stands.{IsBeforeOrAfter, IsBeforeOrAfterAll}
 use Rattle.unit_records.specs.MadeRecords.{MadeRecords, with_begun, with_done}
 use Rattle.unit_records.specs.Records.{IsGood, UnitRecord, entry_of}
@@ -15,8 +17,13 @@ use Rattle.unit_records.specs.declared.record_error.RecordError.{RecordError}
 use Rattle.unit_records.specs.declared.record_error.RecordError.TheVariants.{DeviceFailed, Full, NoMemory}
 use Rattle.journal_recorder.specs.declared.recorder.DiskRecorder.{DiskRecorder}
 
+-- its journal, with the groups of records that are on their way
+abbrev pub staged_of : {D : Type 0} → DiskRecorder D → Staged
+staged_of r = r.staged
+
+-- the journal alone, which ends in front of them
 abbrev pub journal_of : {D : Type 0} → DiskRecorder D → Journal
-journal_of r = r.journal
+journal_of r = r.staged.journal
 
 abbrev pub disk_of : {D : Type 0} → DiskRecorder D → D
 disk_of r = r.pager
@@ -29,17 +36,22 @@ layout_of r = r.layout
 abbrev pub has_failed : {D : Type 0} → DiskRecorder D → Bool
 has_failed r = r.is_failed
 
--- the records that it made, and those that it began where the device failed
+-- the records that it made, and those that it began
 abbrev pub made_of : {D : Type 0} → DiskRecorder D → MadeRecords
 made_of r = r.made.groups.value
+
+-- the records that it laid last
+abbrev pub laid_by : {D : Type 0} → DiskRecorder D → List Entry
+laid_by r = r.made.laid.value
 
 module _ {D : Type 0} (modelled : Bool) (life : D → Life) where
   abbrev pub life_of : DiskRecorder D → Life
   life_of r = life (disk_of r)
 
-  -- it can record: the device has not failed, and what is released is held
+  -- it can record: the device has not failed, no group is on its way, and what is released is held
   pub record Allows (r : DiskRecorder D) (said : UnitRecord) : Type 0 where
     pub going : has_failed r ≡ false
+    pub rest : IsAtRest (staged_of r)
     pub inside : end_of (region_of (journal_of r)) ≤ length (life_of r).seen
     pub released_is_held : released (layout_of r) said ≤ held_of (journal_of r)
 
@@ -60,6 +72,7 @@ module _ {D : Type 0} (modelled : Bool) (life : D → Life) where
     pub faults : (life_of new).faults ≡ (life_of old).faults
     pub was_going : has_failed old ≡ false
     pub going : has_failed new ≡ false
+    pub rest : IsAtRest (staged_of new)
     pub made : made_of new ≡ with_done (made_of old) ((entry_of said ∷ []) ∷ [])
 
   -- the record and what it holds back are longer than the room and what it releases; what is needed stops at 2^64 - 1
@@ -78,6 +91,7 @@ module _ {D : Type 0} (modelled : Bool) (life : D → Life) where
     pub layout : layout_of new ≡ layout_of old
     pub faults : (life_of new).faults ≡ (life_of old).faults + 1
     pub failed : has_failed new ≡ true
+    pub rest : IsAtRest (staged_of new)
     pub begun : made_of new ≡ with_begun (made_of old) ((entry_of said ∷ []) ∷ [])
 
   abbrev pub Fails : DiskRecorder D → UnitRecord → RecordError → DiskRecorder D → Type 0
@@ -90,6 +104,7 @@ module _ {D : Type 0} (modelled : Bool) (life : D → Life) where
   -- it can record, and all that is released together is held
   pub record AllowsAll (r : DiskRecorder D) (records : List UnitRecord) : Type 0 where
     pub going : has_failed r ≡ false
+    pub rest : IsAtRest (staged_of r)
     pub inside : end_of (region_of (journal_of r)) ≤ length (life_of r).seen
     pub released_is_held : released_by (layout_of r) records ≤ held_of (journal_of r)
 
@@ -110,6 +125,7 @@ module _ {D : Type 0} (modelled : Bool) (life : D → Life) where
     pub faults : (life_of new).faults ≡ (life_of old).faults
     pub was_going : has_failed old ≡ false
     pub going : has_failed new ≡ false
+    pub rest : IsAtRest (staged_of new)
     pub made : made_of new ≡ with_done (made_of old) (map entry_of records ∷ [])
 
   -- they were begun: whether they are there, all or none, shows when the store is opened again
@@ -122,4 +138,5 @@ module _ {D : Type 0} (modelled : Bool) (life : D → Life) where
     pub layout : layout_of new ≡ layout_of old
     pub faults : (life_of new).faults ≡ (life_of old).faults + 1
     pub failed : has_failed new ≡ true
+    pub rest : IsAtRest (staged_of new)
     pub begun : made_of new ≡ with_begun (made_of old) (map entry_of records ∷ [])

@@ -11,10 +11,11 @@ ghost use Rattle.tables.specs.ChangeView.{change_of};
 ghost use Rattle.unit_journal.specs.Journal.{region_of};
 ghost use Rattle.unit_journal.specs.LaidRecord.{entry_in};
 ghost use Rattle.unit_journal.specs.Record.{entries_of, entry_of};
+ghost use Rattle.unit_journal.specs.Staged.{IsAtRest};
 ghost use Rattle.unit_records.specs.Records.{IsGood, entry_of as written, heuristic, prepared};
 ghost use Rattle.journal_recorder.specs.declared.checkpointing.CheckpointError.TheVariants.{DeviceFailed, NoMemory};
 ghost use Rattle.journal_recorder.specs.Checkpointing.{IsTooLong};
-ghost use Rattle.journal_recorder.specs.Recording.{disk_of, has_failed, journal_of};
+ghost use Rattle.journal_recorder.specs.Recording.{disk_of, has_failed, journal_of, staged_of};
 
 use crate::laying::{lay_heuristic, lay_prepare};
 use crate::recorder::DiskRecorder;
@@ -27,7 +28,7 @@ use row_pages::Pager;
 use std::alloc::{AllocError, Global};
 use tables::Change;
 use thiserror::Error;
-use unit_journal::{LaidRecord, Record};
+use unit_journal::{LaidRecord, Record, Staged};
 use unit_locks::Claim;
 use unit_records::RecordError;
 use xa_calls::Xid;
@@ -133,7 +134,7 @@ impl<D: Disk> DiskRecorder<D> {
     /// Writes a checkpoint: the rows of these tables, those of their pages with the changes since, into
     /// the half of the store that is not active, and behind them these records and no others; then that
     /// half is the active one, of layout 2, and what is recorded next stands behind them. `held` bytes are
-    /// held back then. The tables lie over the new pages then, with no changes in memory. Whatever
+    /// held back then. No group of records is on its way. The tables lie over the new pages then, with no changes in memory. Whatever
     /// becomes of it, they have the same rows, and their pages can be read as before.
     ///
     /// A crash at any moment leaves the old half or the new one (`Moment`). Of a disk that gives back what
@@ -150,6 +151,7 @@ impl<D: Disk> DiskRecorder<D> {
         held: usize,
     ) -> Result<(), CheckpointError>
         requires going { has_failed self.old ≡ false }
+        requires rest { IsAtRest (staged_of self.old) }
         requires inside { end_of (region_of (journal_of self.old)) ≤ length (D.life (disk_of self.old)).seen }
         requires pages { HasPages D.is_modelled D.life self.old tables.old.tables }
         ensures told { Checkpoints D.is_modelled D.life self.old (store_in tables.old) (entries_of records.now) held result self.new }
@@ -178,6 +180,7 @@ impl<D: Disk> DiskRecorder<D> {
         held: usize,
     ) -> Result<(), CheckpointError>
         requires going { has_failed self.old ≡ false }
+        requires rest { IsAtRest (staged_of self.old) }
         requires size { IsTrue (is_store_size (length (D.life (disk_of self.old)).seen)) }
         requires active { IsTrue D.is_modelled → active_of (D.life (disk_of self.old)).seen ≡ Ok (store_of active.now) }
         requires pages { HasPages D.is_modelled D.life self.old tables.old.tables }
@@ -187,7 +190,7 @@ impl<D: Disk> DiskRecorder<D> {
     {
         match write_checkpoint(self.alloc, &mut self.pager, active, tables, records, held) {
             Ok(relaid) => {
-                self.journal = relaid.switched.journal;
+                self.staged = Staged::at_rest(relaid.switched.journal);
                 self.layout = Layout::Two;
                 tables.relaid(self.alloc, relaid.pages);
                 Ok(())

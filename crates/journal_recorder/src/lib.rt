@@ -8,6 +8,7 @@ mod laying_all;
 mod made;
 mod reading;
 mod recorder;
+mod staging;
 
 pub use checkpointing::{CheckpointError, heuristic_record, prepare_record};
 pub use laws::pages_are_kept;

@@ -16,11 +16,13 @@ use drda_disk::{Disk, Region};
 use half_store::Layout;
 use row_pages::Pager;
 use std::alloc::Global;
-use unit_journal::{AppendError, Journal, LaidRecord};
-use unit_records::{GroupError, RecordContents, RecordError, Recorder};
+use unit_journal::{AppendError, Journal, LaidRecord, Staged};
+use unit_records::{DeviceFailed, GroupError, RecordContents, RecordError, Recorder};
 
 /// Records in the journal of a disk, each record by four device calls: write, sync, gate, sync. Records
-/// that are made together take as many for all of them. A prepare holds the bytes of its decision back,
+/// that are made together take as many for all of them, and may be made in stages, between which the disk is
+/// flushed from outside: they are laid, they are opened once that has settled, and once this has too they are
+/// there to stay. A lone record is made where none is on its way. A prepare holds the bytes of its decision back,
 /// and in layout 2 those of its forgetting too, so that a decision, a heuristic one and a forgetting
 /// always have room. It reads the rows of tables whose pages lie in front of the journal, and keeps pages
 /// until the next checkpoint. Once the device has failed nothing is recorded or read any more,
@@ -29,15 +31,16 @@ use unit_records::{GroupError, RecordContents, RecordError, Recorder};
 pub struct DiskRecorder<D: Disk> {
     pub(crate) alloc: Global,
     pub(crate) pager: Pager<D>,
-    pub(crate) journal: Journal,
+    pub(crate) staged: Staged,
     pub(crate) layout: Layout,
     pub(crate) is_failed: bool,
-    made: MadeRecords,
+    pub(crate) made: MadeRecords,
 }
 
 impl<D: Disk> DiskRecorder<D> {
     ghost use Rattle.journal_recorder.specs.Laying.{AreLaid, Says};
-    ghost use Rattle.journal_recorder.specs.Recording.{AreLeftOpen, Fails, Records, RecordsAll, disk_of, has_failed, journal_of, layout_of, made_of};
+    ghost use Rattle.journal_recorder.specs.Recording.{AreLeftOpen, Fails, Records, RecordsAll, disk_of, has_failed, journal_of, layout_of, made_of, staged_of};
+    ghost use Rattle.unit_journal.specs.Staged.{IsAtRest};
 
     /// Records in this journal of this disk, whose device has not failed, and which is lent with `CACHED_PAGES`
     /// kept pages at most. The journal has this layout.
@@ -46,12 +49,13 @@ impl<D: Disk> DiskRecorder<D> {
         ensures journal { journal_of result ≡ journal }
         ensures layout { layout_of result ≡ layout }
         ensures going { has_failed result ≡ false }
+        ensures rest { IsAtRest (staged_of result) }
         ensures made { made_of result ≡ none_made }
     {
         DiskRecorder {
             alloc,
             pager,
-            journal,
+            staged: Staged::at_rest(journal),
             layout,
             is_failed: false,
             made: MadeRecords::none(),
@@ -83,21 +87,28 @@ impl<D: Disk> DiskRecorder<D> {
     pub fn region(&self) -> Region
         ensures { result ≡ region_of (journal_of self.now) }
     {
-        self.journal.region()
+        self.staged.journal().region()
     }
 
-    /// How many bytes of the journal are left for records.
+    /// The journal, with the groups of records that are on their way.
+    pub fn staged(&self) -> &Staged
+        ensures { result.now ≡ staged_of self.now }
+    {
+        &self.staged
+    }
+
+    /// How many bytes of the journal are left for records, in front of which those on their way count as none.
     pub fn room(&self) -> usize
         ensures { result ≡ room_of (journal_of self.now) }
     {
-        self.journal.room()
+        self.staged.journal().room()
     }
 
     /// How many bytes of the journal are held back for decisions and forgettings.
     pub fn held(&self) -> usize
         ensures { result ≡ held_of (journal_of self.now) }
     {
-        self.journal.held()
+        self.staged.journal().held()
     }
 
     /// The disk, when nothing more is to be recorded.
@@ -112,19 +123,20 @@ impl<D: Disk> DiskRecorder<D> {
         ensures value { result ≡ room_of (journal_of self.now) }
         ensures small { result < 2 ^ 32 }
     {
-        self.journal.room()
+        self.staged.journal().room()
     }
 
     // Adds a record that fits; a failure of the device is remembered.
     fn append(&mut self, laid: &LaidRecord, hold: usize, release: usize) -> Result<(), RecordError>
         requires going { has_failed self.old ≡ false }
+        requires rest { IsAtRest (staged_of self.old) }
         requires inside { end_of (region_of (journal_of self.old)) ≤ length (D.life (disk_of self.old)).seen }
         requires released { release ≤ held_of (journal_of self.old) }
         requires fits { 6 + length (entry_in laid.now).body + hold ≤ room_of (journal_of self.old) + release }
         ensures ok { (said : UnitRecord) → Says (layout_of self.old) said (entry_in laid.now) hold release → OnOk result (Records D.is_modelled D.life self.old said self.new) }
         ensures err { (said : UnitRecord) → Says (layout_of self.old) said (entry_in laid.now) hold release → IfErr result (λ error. Fails D.is_modelled D.life self.old said error self.new) }
     {
-        match self.journal.append(&mut self.pager, laid, hold, release) {
+        match self.staged.append(&mut self.pager, laid, hold, release) {
             Ok(()) => {
                 self.made.note(laid.kind(), laid.body());
                 Ok(())
@@ -144,6 +156,7 @@ impl<D: Disk> DiskRecorder<D> {
     // Adds records at once, all of them or none; a failure of the device is remembered.
     fn append_all(&mut self, laid: &LaidTogether) -> Result<(), GroupError>
         requires going { has_failed self.old ≡ false }
+        requires rest { IsAtRest (staged_of self.old) }
         requires inside { end_of (region_of (journal_of self.old)) ≤ length (D.life (disk_of self.old)).seen }
         requires counted { length (spelled laid.now.group) + laid.now.hold < 2 ^ 64 }
         requires released { laid.now.release ≤ held_of (journal_of self.old) }
@@ -151,7 +164,7 @@ impl<D: Disk> DiskRecorder<D> {
         ensures err { (records : List UnitRecord) → AreLaid (layout_of self.old) records laid.now.group laid.now.hold laid.now.release → IfErr result (λ error. FailsTogether (AreLeftOpen D.is_modelled D.life) records error self.old self.new) }
     {
         match self
-            .journal
+            .staged
             .append_group(&mut self.pager, &laid.group, laid.hold, laid.release)
         {
             Ok(()) => {
@@ -195,5 +208,36 @@ impl<D: Disk> Recorder for DiskRecorder<D> {
             Some(laid) => self.append_all(&laid),
             None => Err(GroupError::Refused),
         }
+    }
+
+    ghost use Rattle.journal_recorder.specs.Staging.{AllowsLaying, AllowsOpening, DropsLaid, FailsToLay, FailsToOpen, LaysAll, OpensLaid};
+
+    ghost allows_lay = { λ old records. AllowsLaying D.is_modelled D.life old records };
+
+    ghost lays = { λ old records new. LaysAll D.is_modelled D.life old records new };
+
+    ghost fails_to_lay = { λ old records new. FailsToLay D.is_modelled D.life old records new };
+
+    fn lay_all(&mut self, sayings: &[RecordContents<'_>]) -> Result<(), GroupError> {
+        match lay_all(self.alloc, self.layout, sayings, self.staged_room()) {
+            Some(laid) => self.lay_group(&laid),
+            None => Err(GroupError::Refused),
+        }
+    }
+
+    ghost allows_open = { λ old. AllowsOpening D.is_modelled D.life old };
+
+    ghost opens = { λ old new. OpensLaid D.is_modelled D.life old new };
+
+    ghost fails_to_open = { λ old new. FailsToOpen D.is_modelled D.life old new };
+
+    fn open_laid(&mut self) -> Result<(), DeviceFailed> {
+        self.open_gate()
+    }
+
+    ghost drops = { λ old new. DropsLaid D.is_modelled D.life old new };
+
+    fn drop_laid(&mut self) {
+        self.give_up_laid()
     }
 }

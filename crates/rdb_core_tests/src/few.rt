@@ -8,7 +8,7 @@ use std::alloc::{AllocError, Global};
 use table_map::JudgedRow;
 use tables::Rows;
 use test_core::{read_row, read_rows};
-use unit_records::{GroupError, RecordContents, RecordError, Recorder};
+use unit_records::{DeviceFailed, GroupError, RecordContents, RecordError, Recorder};
 
 /// What a read gives in the place of a row.
 #[derive(Clone, Copy)]
@@ -165,4 +165,28 @@ impl Recorder for Few {
         self.left -= sayings.len() as u32;
         Ok(())
     }
+
+    ghost allows_lay = { λ _ _. Unit {0} };
+
+    ghost lays = { λ _ _ _. Unit {0} };
+
+    ghost fails_to_lay = { λ _ _ _. Unit {0} };
+
+    fn lay_all(&mut self, _sayings: &[RecordContents<'_>]) -> Result<(), GroupError> {
+        Err(GroupError::Refused)
+    }
+
+    ghost allows_open = { λ _. Unit {0} };
+
+    ghost opens = { λ _ _. Unit {0} };
+
+    ghost fails_to_open = { λ _ _. Unit {0} };
+
+    fn open_laid(&mut self) -> Result<(), DeviceFailed> {
+        Ok(())
+    }
+
+    ghost drops = { λ _ _. Unit {0} };
+
+    fn drop_laid(&mut self) {}
 }

@@ -5,7 +5,7 @@ use ahead_view::{ReadError, Source};
 use paged_tables::{JudgedRows, PagedTables};
 use std::alloc::Global;
 use table_map::JudgedRow;
-use unit_records::{GroupError, RecordContents, RecordError, Recorder};
+use unit_records::{DeviceFailed, GroupError, RecordContents, RecordError, Recorder};
 
 /// Records as another one does, and reads rows of tables that have no pages.
 #[derive(Drop)]
@@ -32,6 +32,32 @@ impl<R: Recorder> Recorder for Unpaged<R> {
 
     fn record_all(&mut self, sayings: &[RecordContents<'_>]) -> Result<(), GroupError> {
         self.recorder.record_all(sayings)
+    }
+
+    ghost allows_lay = { λ u said. R.allows_lay u.recorder said };
+
+    ghost lays = { λ old said new. R.lays old.recorder said new.recorder };
+
+    ghost fails_to_lay = { λ old said new. R.fails_to_lay old.recorder said new.recorder };
+
+    fn lay_all(&mut self, sayings: &[RecordContents<'_>]) -> Result<(), GroupError> {
+        self.recorder.lay_all(sayings)
+    }
+
+    ghost allows_open = { λ u. R.allows_open u.recorder };
+
+    ghost opens = { λ old new. R.opens old.recorder new.recorder };
+
+    ghost fails_to_open = { λ old new. R.fails_to_open old.recorder new.recorder };
+
+    fn open_laid(&mut self) -> Result<(), DeviceFailed> {
+        self.recorder.open_laid()
+    }
+
+    ghost drops = { λ old new. R.drops old.recorder new.recorder };
+
+    fn drop_laid(&mut self) {
+        self.recorder.drop_laid()
     }
 }
 

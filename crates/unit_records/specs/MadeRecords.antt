@@ -1,4 +1,4 @@
--- The records of calls, in their order: those of calls that have been answered, and those of a call that never was.
+-- The records of calls, in their order: those of calls that have been answered, and those of calls that have not.
 use Rattle.std.specs.Prelude.{List, [], ◌++◌, map}
 use Rattle.unit_journal.specs.Record.{Entry}
 use Rattle.unit_records.specs.Records.{UnitRecord, entry_of}
@@ -7,7 +7,8 @@ use Rattle.unit_records.specs.Records.{UnitRecord, entry_of}
 pub record MadeRecords : Type 0 where
   -- the groups of calls that have been answered: they are there to stay
   pub done : List (List Entry)
-  -- the group of the call in which the device failed, if one was due of it: a crash may show it or not
+  -- those of calls that have not: a crash may show each, all of it or none. They are the group of the call in which the device
+  -- failed, if one was due of it, or one that was opened and has not settled
   pub begun : List (List Entry)
 
 abbrev pub none_made : MadeRecords
@@ -24,3 +25,7 @@ with_done made groups = record made { done = made.done ++ groups }
 -- or begun
 abbrev pub with_begun : MadeRecords → List (List Entry) → MadeRecords
 with_begun made groups = record made { begun = made.begun ++ groups }
+
+-- those that were begun are there to stay
+abbrev pub all_done : MadeRecords → MadeRecords
+all_done made = record { done = made.done ++ made.begun; begun = [] }

@@ -2,6 +2,7 @@
 //! records what units become, and which record a call makes due.
 #![tactic(auto)]
 
+mod device_failed;
 mod fronts;
 mod group_call;
 mod group_error;
@@ -16,6 +17,7 @@ mod record_error;
 mod recorder;
 mod write;
 
+pub use device_failed::DeviceFailed;
 pub use group_call::{Asked, GroupCall};
 pub use group_error::GroupError;
 pub use length::{

@@ -1,5 +1,6 @@
 //! Units whose changes are kept in memory alone.
 
+use crate::device_failed::DeviceFailed;
 use crate::group_error::GroupError;
 use crate::record_contents::RecordContents;
 use crate::record_error::RecordError;
@@ -31,4 +32,28 @@ impl Recorder for NoRecords {
     fn record_all(&mut self, _sayings: &[RecordContents<'_>]) -> Result<(), GroupError> {
         Ok(())
     }
+
+    ghost allows_lay = { λ _ _. Unit {0} };
+
+    ghost lays = { λ old _ new. new ≡ old };
+
+    ghost fails_to_lay = { λ _ _ _. ⊥ };
+
+    fn lay_all(&mut self, _sayings: &[RecordContents<'_>]) -> Result<(), GroupError> {
+        Ok(())
+    }
+
+    ghost allows_open = { λ _. Unit {0} };
+
+    ghost opens = { λ old new. new ≡ old };
+
+    ghost fails_to_open = { λ _ _. ⊥ };
+
+    fn open_laid(&mut self) -> Result<(), DeviceFailed> {
+        Ok(())
+    }
+
+    ghost drops = { λ old new. new ≡ old };
+
+    fn drop_laid(&mut self) {}
 }

@@ -1,9 +1,13 @@
 -- What was written is the store's, whose active half was read.
-use Rattle.std.proofs.Common.{◌≡◌, ◌≤◌, ◌+◌, ℕ, length, true, inl, inr, refl}
+use Rattle.std.proofs.Common.{◌≡◌, ◌≤◌, ◌+◌, ℕ, length, true, inl, inr, refl, sym, ◌∙◌, ap, subst}
 use Rattle.half_store.specs.Active.{Store}
 use Rattle.half_store.specs.declared.header.Layout.TheVariants.{Two}
 use Rattle.drda_disk.specs.Disk.{LeavesOnly}
+use Rattle.drda_disk.specs.Region.{end_of}
+use Rattle.unit_journal.specs.Journal.{held_of, region_of}
 use Rattle.unit_journal.specs.Record.{entries_of}
+use Rattle.unit_journal.specs.Staged.{journal_of as journal_in}
+use Rattle.unit_journal.specs.declared.journal.Journal.{Journal}
 use Rattle.half_store.specs.Opened.{store_of}
 use Rattle.store_check.specs.Moment.{GoesOn, Moment}
 use Rattle.paged_tables.specs.PagedTables.{store_in}
@@ -25,16 +29,16 @@ returns-in-Ok-clause-told g c =
     let hold : ℕ = c.args.held in
     let rows = store_in c.args.tables.now in
     let told = c.in-Ok.ensures in
-    let journal = c.in-Ok.relaid.switched.journal in
+    let anew : journal_in c.at_rest-self.result ≡ c.in-Ok.relaid.switched.journal = c.at_rest-self.ensures.journal in
     let of = of_store modelled life old c.args.active.now c.requires.active c.args.tables.now.tables c.requires.pages c.requires.going in
     record {
-      stays = record { size = told.size; made = refl };
+      stays = record { size = told.size; rest = c.at_rest-self.ensures.rest; made = refl };
       moments = of (λ (s : Store). LeavesOnly (life (disk_of old)) disk (Moment base s rows es hold)) told.any_moment;
-      switched = of (λ (s : Store). IsSwitched modelled disk base s rows es hold journal)
-          (λ rests apart. to_switched modelled disk base (store_of c.args.active.now) rows es hold c.in-Ok.relaid.switched (told.done rests apart).anew);
-      held = told.laid.held_back;
+      switched = of (λ (s : Store). IsSwitched modelled disk base s rows es hold (journal_in c.at_rest-self.result))
+          (λ rests apart. subst (λ (j : Journal). IsSwitched modelled disk base (store_of c.args.active.now) rows es hold j) (sym anew) (to_switched modelled disk base (store_of c.args.active.now) rows es hold c.in-Ok.relaid.switched (told.done rests apart).anew));
+      held = ap (λ (j : Journal). held_of j) anew ∙ told.laid.held_back;
       layout = refl;
-      inside = told.laid.inside;
+      inside = subst (λ (j : Journal). end_of (region_of j) ≤ length disk.seen) (sym anew) told.laid.inside;
       faults = told.cause;
       going = c.requires.going;
     }
@@ -44,9 +48,9 @@ returns-in-Ok-clause-pages g c there =
     let old = c.args.self.now in
     let told = c.in-Ok.ensures in
     let s = c.in-Ok.relaid.switched in
-    let new : DiskRecorder g.row.D.Denot = record old { pager = c.write_checkpoint.new.disk; journal = s.journal; layout = Two } in
+    let new : DiskRecorder g.row.D.Denot = record old { pager = c.write_checkpoint.new.disk; staged = c.at_rest-self.result; layout = Two } in
     switched g.D.Disk.is_modelled g.D.Disk.life old new c.args.tables.now.tables c.requires.pages told.size c.requires.going c.args.active.now c.requires.active there
-    c.relaid.new.self.tables s (store_in c.args.tables.now) (entries_of c.args.records.now) c.args.held refl (c.relaid.ensures.inside s.active.region.at told.laid.inside_half) told.laid.front
+    c.relaid.new.self.tables s (store_in c.args.tables.now) (entries_of c.args.records.now) c.args.held c.at_rest-self.ensures.journal (c.relaid.ensures.inside s.active.region.at told.laid.inside_half) told.laid.front
     (λ from end away. c.relaid.ensures.apart from end (told.laid.apart from end away)) (λ rests apart. (told.done rests apart).anew) (λ rests apart. c.relaid.ensures.stand (g.D.Disk.life c.write_checkpoint.new.disk).seen (told.done rests apart).stand)
 
 pub returns-in-Err-NoMemory-clause-told : goal.returns-in-Err-NoMemory-clause-told
@@ -59,7 +63,7 @@ returns-in-Err-NoMemory-clause-told g c =
     let told = c.in-Err-NoMemory.ensures in
     let of = of_store modelled life old c.args.active.now c.requires.active c.args.tables.now.tables c.requires.pages c.requires.going in
     record {
-      stays = record { size = told.size; made = refl };
+      stays = record { size = told.size; rest = c.requires.rest; made = refl };
       moments = of (λ (s : Store). LeavesOnly (life (disk_of old)) disk (Moment base s (store_in c.args.tables.now) (entries_of c.args.records.now) c.args.held)) told.any_moment;
       goes_on = of (λ (s : Store). GoesOn disk base s) (λ rests apart. (rw c.in-Err-NoMemory.field-0-is at told.goes_on) rests);
       journal = refl;
@@ -89,7 +93,7 @@ returns-in-Err-Full-clause-told g c =
     let new : DiskRecorder g.row.D.Denot = record old { pager = c.write_checkpoint.new.disk } in
     let of = of_store modelled life old c.args.active.now c.requires.active c.args.tables.now.tables c.requires.pages c.requires.going in (
       record {
-        stays = record { size = told.size; made = refl };
+        stays = record { size = told.size; rest = c.requires.rest; made = refl };
         moments = of (λ (s : Store). LeavesOnly (life (disk_of old)) disk (Moment base s rows es hold)) told.any_moment;
         goes_on = of (λ (s : Store). GoesOn disk base s) (λ rests apart. (rw c.in-Err-Full.field-0-is at told.goes_on) rests);
         journal = refl;
@@ -118,7 +122,7 @@ returns-in-Err-DeviceFailed-clause-told g c =
     let told = c.in-Err-DeviceFailed.ensures in
     let one : disk.faults ≡ (life (disk_of old)).faults + 1 = rw c.in-Err-DeviceFailed.field-0-is at told.cause in
     record {
-      stays = record { size = told.size; made = refl };
+      stays = record { size = told.size; rest = c.requires.rest; made = refl };
       moments = of_store g.D.Disk.is_modelled life old c.args.active.now c.requires.active c.args.tables.now.tables c.requires.pages c.requires.going
           (λ (s : Store). LeavesOnly (life (disk_of old)) disk (Moment base s (store_in c.args.tables.now) (entries_of c.args.records.now) c.args.held)) told.any_moment;
       journal = refl;
@@ -143,7 +147,7 @@ returns-in-Err-Damaged-clause-told g c =
     let told = c.in-Err-Damaged.ensures in
     let of = of_store g.D.Disk.is_modelled life old c.args.active.now c.requires.active c.args.tables.now.tables c.requires.pages c.requires.going in
     record {
-      stays = record { size = told.size; made = refl };
+      stays = record { size = told.size; rest = c.requires.rest; made = refl };
       moments = of (λ (s : Store). LeavesOnly (life (disk_of old)) disk (Moment base s (store_in c.args.tables.now) (entries_of c.args.records.now) c.args.held)) told.any_moment;
       journal = refl;
       layout = refl;
