@@ -1,9 +1,9 @@
 -- A store that stands on a disk, but for its mark, and with it.
-use Rattle.std.proofs.Common.{◌≡◌, ◌⊎◌, ◌∙◌, inl, inr, sym, ap, subst, ℕ, ◌+◌, ◌-◌, ◌<◌, ◌≤◌, Bool, true, false, List, length, take, get_or, Result, Ok, Err, OnOk, add-zero, arith}
-use Rattle.std.specs.Prelude.{IsTrue, bytes_eq, codes}
-use Rattle.std.proofs.lemmas.Bool.{and_parts}
+use Rattle.std.proofs.Common.{◌≡◌, ◌⊎◌, ◌∙◌, inl, inr, sym, ap, subst, ℕ, ◌+◌, ◌-◌, ◌≤◌, Bool, true, false, List, length, take, get_or, Result, Ok, Err, OnOk, add-zero, arith}
+use Rattle.std.specs.Prelude.{IsTrue, bytes_eq, codes, nat_le}
+use Rattle.std.proofs.lemmas.Bool.{and_parts, leb-true}
 use Rattle.drda_words.specs.Place.{part}
-use Rattle.drda_disk.specs.Disk.{LeavesOnly, Life, Now, Torn, overlaid}
+use Rattle.drda_disk.specs.Disk.{LeavesOnly, Life, Torn, overlaid}
 use Rattle.drda_disk.specs.Images.{Torn-overlaid}
 use Rattle.drda_disk.proofs.Moments.{and_then, no_call, weaker}
 use Rattle.drda_disk.proofs.Parts.{byte_outside, part_after, part-part}
@@ -36,8 +36,11 @@ pub record IsReady (old mid : List ℕ) (active : Active) : Type 0 where
 
 -- ---- from what was moved
 
-module _ (old mid head name : List ℕ) (active : Active) (from size count room : ℕ) (from_is : from ≡ length old) (size_is : size ≡ length mid) (count_is : count ≡ half_len from) (room_is : room ≡ half_len size)
+module _ (old mid head name : List ℕ) (active : Active) (from size count room n : ℕ) (from_is : from ≡ length old) (size_there : size ≡ n) (kept : length mid ≡ n) (count_is : count ≡ half_len from) (room_is : room ≡ half_len size)
     (wider : half_len from ≤ half_len size) (named : is_store_of size name ≡ true) (name_is : name ≡ name_of active) (inside : 8192 + (room + room) ≤ size) (large : 1040384 ≤ count) (head_is : head ≡ head_bytes size name) where
+  size_is : size ≡ length mid
+  size_is = size_there ∙ sym kept
+
   is_half : count ≡ half_len (length old)
   is_half = count_is ∙ ap half_len from_is
 
@@ -58,19 +61,26 @@ module _ (old mid head name : List ℕ) (active : Active) (from size count room 
 
   pub is_ready : (one other : Bool) → IsTrue one → IsTrue other → active_of old ≡ Ok (store_of active) → IsBehindPages (half_len (length old)) active
       → IsMoved one other old (active.region.at + active.region.length - count) count head (8192 + room) mid → IsReady old mid active
-  is_ready one other m n was region moved =
+  is_ready one other told heard was region moved =
       let h = half_len (length old) in
       let ends = region.ends in
       let at : active.region.at + active.region.length - count ≡ offset_of h active.half = omega (arith, ends, is_half) in
       record {
         was = was;
-        head = subst (λ (l : List ℕ). HasHead l mid) name_is (has_head (moved.head_there n));
+        head = subst (λ (l : List ℕ). HasHead l mid) name_is (has_head (moved.head_there heard));
         wider = omega (arith, wider, ap half_len from_is, ap half_len size_is);
         inside = omega (arith, inside, is_room, size_is);
         long = omega (arith, is_half, large);
-        same = subst (λ k. part mid 8192 k ≡ part old (offset_of h active.half) k) is_half (subst (λ k. part mid 8192 count ≡ part old k count) at (moved.copied m n));
-        shut = ap (λ k. get_or mid (8192 + k) 0) (sym is_room) ∙ moved.gate_shut n;
+        same = subst (λ k. part mid 8192 k ≡ part old (offset_of h active.half) k) is_half (subst (λ k. part mid 8192 count ≡ part old k count) at (moved.copied told heard));
+        shut = ap (λ k. get_or mid (8192 + k) 0) (sym is_room) ∙ moved.gate_shut heard;
       }
+
+-- a head ends in front of the first half
+pub short_head : (size : ℕ) (name head : List ℕ) → is_store_of size name ≡ true → head ≡ head_bytes size name → 8 + length head ≤ 8192
+short_head size name head named is =
+    let n = length name in
+    let len = (and_parts (is_name_len n) (are_printable name) (and_parts (is_store_size size) (is_name name) named).1).0 in
+    omega (arith, ap length is, leb-true n 18 (and_parts (nat_le 1 n) (nat_le n 18) len).1)
 
 -- ---- with the mark
 
