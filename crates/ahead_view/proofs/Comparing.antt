@@ -1,22 +1,22 @@
 -- The key of a row and bytes that may be it are compared by their values, where these lie.
-use Rattle.std.proofs.Common.{◌≡◌, ℕ, ◌+◌, ◌<◌, ◌≤◌, List, [], ◌∷◌, Bool, true, false, refl, sym, ap, subst, ◌∙◌, length, drop, get_or, arith, Some, Ordering, Less, Equal, Greater}
-use Rattle.std.specs.Prelude.{bytes_eq, unwrap_or}
+use Rattle.std.proofs.Common.{◌≡◌, ℕ, ◌+◌, ◌<◌, ◌≤◌, List, [], ◌∷◌, Bool, true, false, refl, sym, ap, ◌∙◌, length, drop, get_or, arith, Some, Ordering, Less, Equal, Greater}
+use Rattle.std.specs.Prelude.{bytes_eq}
 use Rattle.std.specs.List.{slice_get}
-use Rattle.std.specs.Ordering.{is_lt, is_ne, nat_cmp, ordering_then}
+use Rattle.std.specs.Ordering.{is_ne, ordering_then}
 use Rattle.std.specs.Cmp.Lexicographic.{slice_cmp}
-use Rattle.std.proofs.lemmas.Cmp.{lists_total, nat_list_cmp_total, tied_itself}
-use Rattle.std.proofs.lemmas.List.{drop_all, drop_more}
+use Rattle.std.proofs.lemmas.Cmp.{lists_total, tied_itself}
+use Rattle.std.proofs.lemmas.List.{drop_more}
 use Rattle.std.proofs.lemmas.Option.{slice_get_within}
 use Rattle.std.proofs.lemmas.Slice.Eq.{bytes_eq-Decides}
 use Rattle.drda_words.specs.Bytes.{AreBytes}
 use Rattle.row_values.specs.Value.{Value, null, value_cmp}
-use Rattle.row_values.specs.Schema.{Schema, is_schema, key_columns, picked}
-use Rattle.row_values.specs.Row.{all_fit, row_bytes, values_in}
-use Rattle.row_values.specs.Key.{is_key, key_cmp, key_values, row_key}
+use Rattle.row_values.specs.Schema.{Schema, is_schema, key_columns}
+use Rattle.row_values.specs.Row.{row_bytes, values_in}
+use Rattle.row_values.specs.Key.{is_key, key_values, row_key}
 use Rattle.row_values.proofs.ValueLaws.{values_at-is}
-use Rattle.row_values.proofs.ReadSteps.{drop_at, values_count}
-use Rattle.row_values.proofs.Keys.{key_count, key_good, key_places, length-picked, place_within}
-use Rattle.row_values.proofs.RowKeys.{key_fits, key_place, key_places_values, key_value_at, row_key_good}
+use Rattle.row_values.proofs.ReadSteps.{values_count}
+use Rattle.row_values.proofs.Keys.{key_count}
+use Rattle.row_values.proofs.RowKeys.{row_key_good}
 use Rattle.row_values.proofs.KeyOrder.{OrderedFrom, key_read, value_cmp_total, values_exact}
 use Rattle.row_pages.proofs.Comparing.{Fits, keyed, keyed_at, keyed_count, keyed_is, order_at, tie_at_end}
 

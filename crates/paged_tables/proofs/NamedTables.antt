@@ -18,7 +18,7 @@ use Rattle.tables.specs.Change.{create}
 use Rattle.tables.specs.Tables.{Store, Table, apply, schema_of, table_of, with_table}
 use Rattle.tables.proofs.Finding.{found_put, itself, same_bytes}
 use Rattle.tables.proofs.Changes.{names_apart}
-use Rattle.paged_tables.proofs.Pages.{IsBare, pages_added, pages_set, pages_stay_themselves}
+use Rattle.paged_tables.proofs.Pages.{IsBare, pages_added, pages_set}
 use Rattle.paged_tables.specs.Stored.{KeepsPages, Stored, created_table, shown}
 use Rattle.paged_tables.specs.TablesByName.{Grows, Tables, named, schema_after, schema_at, shown_entry, store_of, tables_in}
 
@@ -269,9 +269,6 @@ grows_set q s t u at keeps more = record {
   schemas = λ name schema is. schemas_set q s t u at keeps.schema name ∙ is;
   pages = pages_set q s t u at keeps;
 }
-
-pub grows_itself : (s : Tables) → Grows s s
-grows_itself s = record { rooms = λ name form room. room; schemas = λ name schema is. is; pages = pages_stay_themselves s }
 
 ready_rooms : (b : Bool) (t : Stored) (o : Option Stored) (form : List ℕ) → (b ≡ true → o ≡ None) → HasRoom form (slots_in o) → HasRoom form (slots_in (cond b (Some t) o))
 ready_rooms true t o form none room = absurd (no_room form (subst (λ (x : Option Stored). HasRoom form (slots_in x)) (none refl) room))

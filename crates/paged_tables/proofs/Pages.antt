@@ -29,9 +29,6 @@ same_inside size t u keeps h = subst (λ (p : Places). p.at + 8192 * length p.ke
 pub same_outside : (from end : ℕ) (t u : Stored) → KeepsPages t u → LiesOutside from end t → LiesOutside from end u
 same_outside from end t u keeps h = subst (λ (p : Places). (p.at + 8192 * length p.keys ≤ from) ⊎ (end ≤ p.at)) (sym keeps.places) h
 
-pub keeps_itself : (t : Stored) → KeepsPages t t
-keeps_itself t = record { schema = refl; places = refl; base = refl }
-
 -- ---- all tables
 
 module _ (P : Stored → Type 0) where

@@ -2,7 +2,7 @@ mod Passing
 mod RowBytes
 pub mod PageBytes
 mod Growing
-mod LaidPages
+pub mod LaidPages
 mod KeptPages
 mod Placed
 pub mod Comparing

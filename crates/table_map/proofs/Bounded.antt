@@ -1,11 +1,12 @@
 -- Rows with changes take no more pages than those that the rows have, and two for each change.
-use Rattle.std.proofs.Common.{◌≡◌, ⊎_elim, ℕ, ◌+◌, ◌*◌, ◌<◌, ◌≤◌, List, [], ◌∷◌, ◌++◌, length, map, Bool, true, false, Less, Equal, Greater, refl, sym, ap, subst, ◌∙◌, arith, append-nil, length-append}
-use Rattle.std.specs.Prelude.{nat_le, Option, Some, None, if◌then◌else◌}
+use Rattle.std.proofs.Common.{◌≡◌, ⊎_elim, ℕ, ◌+◌, ◌*◌, ◌<◌, ◌≤◌, List, [], ◌∷◌, ◌++◌, length, map, Less, Equal, Greater, refl, ap, subst, ◌∙◌, arith, append-nil, length-append}
+use Rattle.std.specs.Prelude.{Option, Some, None, if◌then◌else◌}
 use Rattle.std.specs.Ordering.{match_ordering}
 use Rattle.std.specs.declared.cmp.Ordering.{Ordering}
 use Rattle.std.proofs.lemmas.Bool.{le-leb, lt-leb, cases_lt}
 use Rattle.row_pages.specs.Page.{row_bytes, rows_bytes}
-use Rattle.row_pages.specs.Laying.{count_behind, ended, fits, laid, laid_behind, last_count, rows_over}
+use Rattle.row_pages.specs.Laying.{count_behind, laid, last_count, rows_over}
+use Rattle.row_pages.proofs.LaidPages.{count_is}
 use Rattle.key_map.specs.Merging.{Changes, Rows, changed, keyed, merged}
 use Rattle.key_map.specs.Overlay.{change_of, said}
 use Rattle.key_map.specs.Slots.{by_bytes}
@@ -210,28 +211,6 @@ pages_most file at [] stand = omega arith
 pages_most file at (page ∷ pages) stand = omega (arith, rows_append page (rows_over pages), stand.0.fits, pages_most file (at + 8192) pages stand.1)
 
 -- ---- as pages are counted
-
-size_more : (rows : List (List ℕ)) (row : List ℕ) → length (rows_bytes (rows ++ row ∷ [])) ≡ length (rows_bytes rows) + 2 + length row
-size_more [] row = omega (arith, length-append (row_bytes row) [], row_size row)
-size_more (r ∷ rows) row = omega (arith, length-append (row_bytes r) (rows_bytes (rows ++ row ∷ [])), length-append (row_bytes r) (rows_bytes rows), size_more rows row)
-
-count_last : (page : List (List ℕ)) → length (ended page) ≡ last_count (length (rows_bytes page))
-count_last [] = refl
-count_last (row ∷ rows) = sym (last_some (length (rows_bytes (row ∷ rows))) (omega (arith, length-append (row_bytes row) (rows_bytes rows), row_size row)))
-
-count_step : (page : List (List ℕ)) (row : List ℕ) (rows : List (List ℕ)) (b : Bool)
-    → length (laid_behind (page ++ row ∷ []) rows) ≡ count_behind (length (rows_bytes page) + 2 + length row) rows → length (laid_behind (row ∷ []) rows) ≡ count_behind (2 + length row) rows
-    → length (if b then laid_behind (page ++ row ∷ []) rows else page ∷ laid_behind (row ∷ []) rows) ≡ (if b then count_behind (length (rows_bytes page) + 2 + length row) rows else 1 + count_behind (2 + length row) rows)
-count_step page row rows true on new = on
-count_step page row rows false on new = omega (arith, new)
-
-count_is : (page rows : List (List ℕ)) → length (laid_behind page rows) ≡ count_behind (length (rows_bytes page)) rows
-count_is page [] = count_last page
-count_is page (row ∷ rows) =
-    count_step page row rows (fits (page ++ row ∷ []))
-    (count_is (page ++ row ∷ []) rows ∙ ap (λ (n : ℕ). count_behind n rows) (size_more page row))
-    (count_is (row ∷ []) rows ∙ ap (λ (n : ℕ). count_behind n rows) (size_more [] row))
-    ∙ ap (λ b. if b then count_behind (length (rows_bytes page) + 2 + length row) rows else 1 + count_behind (2 + length row) rows) (ap (λ (n : ℕ). nat_le (3 + n) 8192) (size_more page row))
 
 bare : (key_of : List ℕ → List ℕ) (rows : List (List ℕ)) → without_keys (keyed_rows key_of rows) ≡ rows
 bare key_of [] = refl

@@ -1,19 +1,11 @@
 -- How far a cursor has come.
-use Rattle.std.proofs.Common.{◌≡◌, ℕ, List, [], ◌∷◌, ◌++◌, length, map, sym, ap, subst, ◌∙◌, append_assoc, append-nil}
-use Rattle.std.specs.Global.{Vec}
+use Rattle.std.proofs.Common.{◌≡◌, ℕ, List, [], ◌∷◌, length, sym, ap, subst, ◌∙◌}
 use Rattle.std.specs.List.{AllByRecursion}
 use Rattle.row_pages.specs.Laying.{Count, IsShort, counted, laid, pages_with}
 use Rattle.key_map.specs.Merging.{Rows}
-use Rattle.std.proofs.lemmas.List.{map-append}
 use Rattle.table_map.specs.Table.{without_keys}
 use Rattle.table_map.specs.Cursor.{IsLeft, GoesOn}
 use Rattle.table_map.specs.declared.cursor.RowCursor.{RowCursor}
-
--- these were given, and with those that are left they are all
-pub record IsGiven (key_of : List ℕ → List ℕ) (file : List ℕ) (cursor : RowCursor) (given all : List (List ℕ)) : Type 0 where
-  pub left : Rows
-  pub is : IsLeft key_of file cursor left
-  pub same : given ++ without_keys left ≡ all
 
 -- with those that are left there are as many pages as all take, and where all are short they are
 pub record IsCounted (key_of : List ℕ → List ℕ) (file : List ℕ) (cursor : RowCursor) (count : Count) (all : List (List ℕ)) : Type 0 where
@@ -23,23 +15,6 @@ pub record IsCounted (key_of : List ℕ → List ℕ) (file : List ℕ) (cursor 
   pub short : AllByRecursion IsShort all → AllByRecursion IsShort (without_keys left)
 
 module _ (key_of : List ℕ → List ℕ) (file : List ℕ) where
-  pub one_given : (old new : RowCursor) (given more : List (Vec ℕ)) (all : List (List ℕ)) (row : Vec ℕ) (held : IsGiven key_of file old (map (λ r. r.items) given) all) → GoesOn key_of file held.left row.items new → more ≡ given ++ row ∷ []
-      → IsGiven key_of file new (map (λ r. r.items) more) all
-  one_given old new given more all row held goes is =
-      record {
-        left = goes.more;
-        is = goes.is;
-        same =
-            ap (λ (l : List (Vec ℕ)). map (λ r. r.items) l ++ without_keys goes.more) is
-            ∙ ap (λ (l : List (List ℕ)). l ++ without_keys goes.more) (map-append (λ (r : Vec ℕ). r.items) given (row ∷ []))
-            ∙ append_assoc (map (λ r. r.items) given) (row.items ∷ []) (without_keys goes.more)
-            ∙ ap (λ (l : Rows). map (λ r. r.items) given ++ without_keys l) (sym goes.same)
-            ∙ held.same;
-      }
-
-  pub all_given : (cursor : RowCursor) (given all : List (List ℕ)) (held : IsGiven key_of file cursor given all) → held.left ≡ [] → given ≡ all
-  all_given cursor given all held none = sym (append-nil given) ∙ ap (λ (l : Rows). given ++ without_keys l) (sym none) ∙ held.same
-
   pub one_counted : (old new : RowCursor) (count more : Count) (all : List (List ℕ)) (row : List ℕ) (held : IsCounted key_of file old count all) → GoesOn key_of file held.left row new
       → ((rows : List (List ℕ)) → pages_with more rows ≡ pages_with count (row ∷ rows)) → IsCounted key_of file new more all
   one_counted old new count more all row held goes is =

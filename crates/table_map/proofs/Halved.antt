@@ -31,12 +31,6 @@ module _ (key_of : List ℕ → List ℕ) (q : List ℕ) where
   drop_at (r ∷ rows) zero row is = let same : r ≡ row = cc in ap (λ (x : List ℕ). x ∷ rows) same
   drop_at (r ∷ rows) (suc m) row is = drop_at rows m row is
 
-  drop_order : (rows : List (List ℕ)) (m : ℕ) → InOrder (keyed_rows key_of rows) → InOrder (keyed_rows key_of (drop m rows))
-  drop_order [] zero up = up
-  drop_order [] (suc m) up = up
-  drop_order (r ∷ rows) zero up = up
-  drop_order (r ∷ rows) (suc m) up = drop_order rows m (sorted_tail by_bytes (key_of r) (keys_of (keyed_rows key_of rows)) up)
-
   pub found_here : (rows : List (List ℕ)) (m : ℕ) (row : List ℕ) → InOrder (keyed_rows key_of rows) → slice_get rows m ≡ Some row → by_bytes q (key_of row) ≡ Equal → Some row ≡ row_at q (keyed_rows key_of rows)
   found_here rows m row up is same =
       sym

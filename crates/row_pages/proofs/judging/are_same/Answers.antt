@@ -1,12 +1,12 @@
 -- Schemas with the same columns and the same key are the same one.
-use Rattle.std.proofs.Common.{◌≡◌, ◌==◌, ◌&&◌, ℕ, List, [], ◌∷◌, Bool, true, false, refl, sym, ap, ◌∙◌, map}
+use Rattle.std.proofs.Common.{◌≡◌, ◌==◌, ◌&&◌, List, [], ◌∷◌, Bool, true, false, refl, sym, ◌∙◌, map}
 use Rattle.std.specs.Prelude.{bytes_eq}
 use Rattle.std.specs.String.{string_bytes}
 use Rattle.std.proofs.lemmas.Bool.{eqb-true}
 use Rattle.std.proofs.lemmas.Slice.Eq.{bytes_eq-Decides}
 use mathlib.Core.Bool.{beq}
 use lib.Pointwise.{pointwise}
-use Rattle.row_values.specs.Column.{Column, column_of}
+use Rattle.row_values.specs.Column.{column_of}
 use Rattle.row_values.specs.declared.column.Kind.{Kind}
 use Rattle.row_values.specs.declared.column.Kind.TheVariants.{SmallInt, Integer, BigInt, VarChar, VarBinary}
 use Rattle.row_values.specs.declared.column.Column.{Column as CodeColumn}
