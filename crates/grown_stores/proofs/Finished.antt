@@ -1,5 +1,5 @@
 -- A store that stands on a disk, but for its mark, and with it.
-use Rattle.std.proofs.Common.{◌≡◌, ◌⊎◌, ◌∙◌, inl, inr, sym, ap, subst, ℕ, ◌+◌, ◌-◌, ◌≤◌, Bool, true, false, List, length, take, get_or, Result, Ok, Err, OnOk, add-zero, arith}
+use Rattle.std.proofs.Common.{◌≡◌, ◌⊎◌, ◌∙◌, inl, inr, refl, sym, ap, subst, ℕ, ◌+◌, ◌-◌, ◌≤◌, Bool, true, false, List, length, take, get_or, Result, Ok, Err, OnOk, add-zero, arith}
 use Rattle.std.specs.Prelude.{IsTrue, bytes_eq, codes, nat_le}
 use Rattle.std.proofs.lemmas.Bool.{and_parts, leb-true}
 use Rattle.drda_words.specs.Place.{part}
