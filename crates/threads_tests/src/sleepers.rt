@@ -23,7 +23,7 @@ struct Sleepers {
 /// Whether so many threads sleep, at one moment, beside the one that lets conversations in. It is looked twice: who was never switched to between
 /// has slept all the while.
 pub fn are_asleep<R: Files>(files: &R, alloc: Global, number: u64) -> bool {
-    match (sleepers(files, alloc), sleepers(files, alloc)) {
+    match (who_sleeps(files, alloc), who_sleeps(files, alloc)) {
         (Some(first), Some(second)) => {
             first.count >= number && first.seen.as_str() == second.seen.as_str()
         }
@@ -32,7 +32,7 @@ pub fn are_asleep<R: Files>(files: &R, alloc: Global, number: u64) -> bool {
 }
 
 // Who sleeps now. None where the system does not tell, and without memory.
-fn sleepers<R: Files>(files: &R, alloc: Global) -> Option<Sleepers> {
+fn who_sleeps<R: Files>(files: &R, alloc: Global) -> Option<Sleepers> {
     let names = names(files, alloc)?;
     let mut found = Sleepers {
         count: 0,
