@@ -4,7 +4,8 @@ use Rattle.std.specs.Prelude.{IfOk}
 use Rattle.drda_disk.specs.Disk.{Life}
 use Rattle.drda_disk.proofs.Moments.{Stays-trans}
 use Rattle.unit_journal.specs.Journal.{room_of}
-use Rattle.unit_journal.specs.declared.journal.Journal.{Journal}
+use Rattle.unit_journal.specs.Staged.{journal_of as journal_in}
+use Rattle.unit_journal.specs.declared.staged.Staged.{Staged}
 use Rattle.paged_tables.specs.TablesByName.{Tables}
 use Rattle.core_model.specs.Step.{CoreState}
 use Rattle.ahead_view.specs.Source.{LeavesReader}
@@ -32,13 +33,13 @@ module _ {D : Type 0} (modelled : Bool) (life : D → Life) where
   both_rest : (a b c : DiskRecorder D) → RestsOn life a b → RestsOn life b c → RestsOn life a c
   both_rest a b c first second = record {
     disk = Stays-trans (life (disk_of a)) (life (disk_of b)) (life (disk_of c)) first.disk second.disk;
-    journal = second.journal ∙ first.journal;
+    staged = second.staged ∙ first.staged;
     layout = second.layout ∙ first.layout;
     made = second.made ∙ first.made;
   }
 
   one_read : (r after : DiskRecorder D) → Reads modelled life r after → RestsOn life r after
-  one_read r after read = record { disk = read.stays; journal = read.journal; layout = read.layout; made = read.made }
+  one_read r after read = record { disk = read.stays; staged = read.staged; layout = read.layout; made = read.made }
 
   reads_along : (r : DiskRecorder D) (between : List (DiskRecorder D)) (after : DiskRecorder D) → ReadsAlong (Reads modelled life) r between after → IsQuiet r after
   reads_along r [] after same = subst (λ (x : DiskRecorder D). IsQuiet r x) (sym same) (record { rests_on = rests modelled life [] r; faults = refl; failed = refl; pages = λ tables has. has })
@@ -69,7 +70,7 @@ module _ {D : Type 0} (modelled : Bool) (life : D → Life) where
 
     failed_left : {T : Type 0} (last after : DiskRecorder D) → IsQuiet r last → FailsToRead modelled life last after → IsLeft {T = T} (Err error.DeviceFailed) s after
     failed_left last after quiet fails =
-        let rests_on : RestsOn life r after = both_rest r last after quiet.rests_on (record { disk = fails.stays; journal = fails.journal; layout = fails.layout; made = fails.made }) in
+        let rests_on : RestsOn life r after = both_rest r last after quiet.rests_on (record { disk = fails.stays; staged = fails.staged; layout = fails.layout; made = fails.made }) in
         let faults : IsTrue modelled → (life (disk_of after)).faults ≡ (life (disk_of r)).faults + 1 = λ is_modelled. fails.faults is_modelled (quiet.failed ∙ going) ∙ ap (λ (n : ℕ). n + 1) quiet.faults in
         let at_most = subst (λ (n : ℕ). ((life (disk_of after)).faults ≡ n + 1) ⊎ ((life (disk_of after)).faults ≡ n)) quiet.faults fails.at_most in
         record {
@@ -79,7 +80,7 @@ module _ {D : Type 0} (modelled : Bool) (life : D → Life) where
             name = refl;
             state = refl;
             layout = rests_on.layout;
-            room = ap (λ (j : Journal). room_of j) rests_on.journal;
+            room = ap (λ (s : Staged). room_of (journal_in s)) rests_on.staged;
             faults = some_fault modelled true (life (disk_of r)).faults (life (disk_of after)).faults refl faults at_most;
             failed = fails.failed;
             made = rests_on.made;

@@ -81,6 +81,7 @@ module _ {D : Type 0} (modelled : Bool) (life : D → Life) (name : List ℕ) (a
     pub allowed : AllowsAll modelled life r said
     allowed = record {
       going = going;
+      rest = is.rest;
       inside = is.inside;
       released_is_held = subst (λ (n : ℕ). free ≤ n) (sym is.held) (all.of_doubts (layout_of r) s cs is.kept may).0;
     }
@@ -131,6 +132,7 @@ module _ {D : Type 0} (modelled : Bool) (life : D → Life) (name : List ℕ) (a
       done_left = record {
         recorded = record {
           kept = all.keep s cs is.kept;
+          rest = made.rest;
           held = (let sum : held_of (journal_of after) ≡ held_for (layout_of r) (durable_part behind).doubts = omega (arith, made.held, holds_for, is.held) in sum) ∙ ap (λ (l : Layout). held_for l (durable_part behind).doubts) (sym made.layout);
           inside = subst (λ (g : Region). end_of g ≤ length (life (disk_of after)).seen) (sym made.region) (subst (λ (n : ℕ). end_of (region_of (journal_of r)) ≤ n) (sym made.others.size) is.inside);
           on_disk = λ modelled_disk still. on_disk modelled_disk;
@@ -158,6 +160,7 @@ module _ {D : Type 0} (modelled : Bool) (life : D → Life) (name : List ℕ) (a
       open_left = record {
         recorded = record {
           kept = is.kept;
+          rest = left.rest;
           held = ap (λ (j : Journal). held_of j) left.journal ∙ is.held ∙ ap (λ (l : Layout). held_for l (durable_part s).doubts) (sym left.layout);
           inside = subst (λ (j : Journal). end_of (region_of j) ≤ length (life (disk_of after)).seen) (sym left.journal) (subst (λ (n : ℕ). end_of (region_of (journal_of r)) ≤ n) (sym left.others.size) is.inside);
           on_disk = λ modelled_disk still. absurd (false≢true (sym still ∙ left.failed));

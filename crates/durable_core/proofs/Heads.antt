@@ -11,7 +11,8 @@ use Rattle.unit_journal.specs.Open.{IsWhole}
 use Rattle.unit_journal.specs.declared.errors.OpenError.{OpenError as JournalError}
 use Rattle.unit_journal.specs.declared.errors.OpenError.TheVariants.{Damaged}
 use Rattle.recovery.proofs.Reading.{half_large}
-use Rattle.durable_core.specs.Reads.{ArePagesInside, IsHead, IsInside}
+use Rattle.unit_journal.specs.Adding.{IsPlace}
+use Rattle.durable_core.specs.Reads.{ArePagesInside, IsHead}
 
 -- a half's end lies in the disk
 pub ends_in : (h size : ℕ) (half : Half) → 8192 + (h + h) ≤ size → offset_of h half + h ≤ size
@@ -19,7 +20,7 @@ ends_in h size First fits = omega (arith, fits)
 ends_in h size Second fits = omega (arith, fits)
 
 -- what is read of a head says where its pages and its journal lie
-pub inside_ok : (size : ℕ) (a : Active) → IsTrue (is_store_size size) → IsBehindPages (half_len size) a → IsInside size a.region
+pub inside_ok : (size : ℕ) (a : Active) → IsTrue (is_store_size size) → IsBehindPages (half_len size) a → IsPlace size a.region
 inside_ok size a is behind =
     let large = half_large size is in
     let ends : offset_of (half_len size) a.half + half_len size ≤ size = ends_in (half_len size) size a.half large.1 in

@@ -4,7 +4,8 @@ use Rattle.std.proofs.Common.{◌≡◌, ◌⊎◌, inl, inr, ℕ, ◌+◌, Bool
 use Rattle.std.proofs.lemmas.Bool.{false≢true}
 use Rattle.drda_disk.specs.Disk.{Life}
 use Rattle.unit_journal.specs.Journal.{room_of}
-use Rattle.unit_journal.specs.declared.journal.Journal.{Journal}
+use Rattle.unit_journal.specs.Staged.{journal_of as journal_in}
+use Rattle.unit_journal.specs.declared.staged.Staged.{Staged}
 use Rattle.unit_records.specs.Due.{record_due}
 use Rattle.unit_records.specs.MadeRecords.{with_done}
 use Rattle.unit_records.specs.Records.{UnitRecord}
@@ -50,7 +51,7 @@ module _ {D : Type 0} (modelled : Bool) (life : D → Life) (name : List ℕ) (a
 
     module _ (after : DiskRecorder D) (read : Reads modelled life r after) where
       rests : RestsOn life r after
-      rests = record { disk = read.stays; journal = read.journal; layout = read.layout; made = read.made }
+      rests = record { disk = read.stays; staged = read.staged; layout = read.layout; made = read.made }
 
       still : has_failed after ≡ false
       still = read.failed ∙ going
@@ -65,7 +66,7 @@ module _ {D : Type 0} (modelled : Bool) (life : D → Life) (name : List ℕ) (a
               answer_is = refl;
               state = refl;
               layout = read.layout;
-              room = subst (λ (o : Option UnitRecord). RoomAfter (layout_of r) o (room_of (journal_of r)) (room_of (journal_of after))) (sym none) (ap (λ (j : Journal). room_of j) read.journal);
+              room = subst (λ (o : Option UnitRecord). RoomAfter (layout_of r) o (room_of (journal_of r)) (room_of (journal_of after))) (sym none) (ap (λ (s : Staged). room_of (journal_in s)) read.staged);
               faults = read.faults;
               still = still;
               made = read.made ∙ nothing_done (made_of r) ∙ ap (λ (o : Option UnitRecord). with_done (made_of r) (due_groups o)) (sym none);
@@ -84,7 +85,7 @@ module _ {D : Type 0} (modelled : Bool) (life : D → Life) (name : List ℕ) (a
               going = going;
               misread = misread;
               layout = read.layout;
-              room = ap (λ (j : Journal). room_of j) read.journal;
+              room = ap (λ (s : Staged). room_of (journal_in s)) read.staged;
               faults = read.faults;
               still = still;
               made = read.made;
@@ -115,7 +116,7 @@ module _ {D : Type 0} (modelled : Bool) (life : D → Life) (name : List ℕ) (a
 
     failed_step : (after : DiskRecorder D) → FailsToRead modelled life r after → IsDone modelled life name s r conversation k device_failed s after
     failed_step after fails =
-        let rests : RestsOn life r after = record { disk = fails.stays; journal = fails.journal; layout = fails.layout; made = fails.made } in
+        let rests : RestsOn life r after = record { disk = fails.stays; staged = fails.staged; layout = fails.layout; made = fails.made } in
         let faults : IsTrue modelled → (life (disk_of after)).faults ≡ (life (disk_of r)).faults + 1 = λ is_modelled. fails.faults is_modelled going in
         record {
           recorded = read_recorded modelled life name all.laws s r is going s refl after rests is.kept;
@@ -126,7 +127,7 @@ module _ {D : Type 0} (modelled : Bool) (life : D → Life) (name : List ℕ) (a
             name = refl;
             state = refl;
             layout = fails.layout;
-            room = ap (λ (j : Journal). room_of j) fails.journal;
+            room = ap (λ (s : Staged). room_of (journal_in s)) fails.staged;
             faults = some_fault modelled true (life (disk_of r)).faults (life (disk_of after)).faults refl faults fails.at_most;
             failed = fails.failed;
             made = fails.made;

@@ -14,7 +14,8 @@ use Rattle.recovery.specs.Kept.{IsKept}
 use Rattle.recovery.specs.StepLaws.{OpeningsAreKept}
 use Rattle.recovery.specs.Part.{durable_part, opened}
 use Rattle.journal_recorder.specs.Reading.{HasPages}
-use Rattle.journal_recorder.specs.Recording.{disk_of, journal_of, layout_of, made_of}
+use Rattle.unit_journal.specs.Staged.{IsAtRest}
+use Rattle.journal_recorder.specs.Recording.{disk_of, journal_of, layout_of, made_of, staged_of}
 use Rattle.journal_recorder.specs.declared.recorder.DiskRecorder.{DiskRecorder}
 use Rattle.recovery.specs.Opens.{Holds}
 use Rattle.durable_core.specs.Recorded.{IsOnDisk, IsRecorded}
@@ -40,9 +41,10 @@ module _ {D : Type 0} (modelled : Bool) (life : D → Life) (laws : OpeningsAreK
         none_begun = none_begun;
       }
 
-  pub is_recorded : (made_of r).begun ≡ [] → IsRecorded modelled life (name_in f) s r
-  is_recorded none_begun = record {
+  pub is_recorded : (made_of r).begun ≡ [] → IsAtRest (staged_of r) → IsRecorded modelled life (name_in f) s r
+  is_recorded none_begun rest = record {
     kept = subst (λ (t : CoreState). IsKept t) (sym state) (laws (durable_in f) found.sound).kept;
+    rest = rest;
     held = ap (λ (j : Journal). held_of j) same_journal ∙ found.held ∙ ap (λ (d : Durable). held_for f.layout d.doubts) (sym part_is) ∙ ap (λ (l : Layout). held_for l (durable_part s).doubts) (sym same_layout);
     inside = subst (λ (j : Journal). end_of (region_of j) ≤ length (life (disk_of r)).seen) (sym same_journal)
         (subst (λ (x : D). end_of (region_of f.journal) ≤ length (life x).seen) (sym same_disk) found.inside);

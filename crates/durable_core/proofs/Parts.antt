@@ -26,7 +26,8 @@ use Rattle.recovery.specs.Sound.{IsSound, LeadsAreSound}
 use Rattle.recovery.specs.Opens.{Holds, IsJournal, OpensTo}
 use Rattle.recovery.specs.ImageLaws.{IsThere, OpensThere, OpensToOne}
 use Rattle.recovery.proofs.Reading.{one_store}
-use Rattle.durable_core.specs.Reads.{ArePagesInside, IsHead, IsInside, IsPlain}
+use Rattle.unit_journal.specs.Adding.{IsPlace}
+use Rattle.durable_core.specs.Reads.{ArePagesInside, IsHead, IsPlain}
 use Rattle.durable_core.specs.Found.{IsFound, StandInFront, StandsThere, durable_in, name_in}
 use Rattle.durable_core.specs.declared.errors.OpenError.{OpenError}
 use Rattle.durable_core.specs.declared.reading.Found.{Found}
@@ -116,7 +117,7 @@ module _ (modelled : Bool) (last : Life) (image : List ℕ) (a : Active) (tables
     room = omega (arith, f.journal.fits, settled.next, held);
   }
 
-  pub found_all : LeadsAreSound → is_store tables ≡ true → IsInside (length image) a.region → ArePagesInside (length image) a → StandInFront modelled image a.region f.store.tables
+  pub found_all : LeadsAreSound → is_store tables ≡ true → IsPlace (length image) a.region → ArePagesInside (length image) a → StandInFront modelled image a.region f.store.tables
       → (IsTrue modelled → IsHead image a) → (IsTrue modelled → HasCheckpoint image (pages_of a) tables) → (IsTrue modelled → IsSettled modelled last f.journal es) → IsFound modelled last f
   found_all sound good inside pages stand head has settled = record {
     sound = subst IsSound (sym same) (sound tables d es good leads);

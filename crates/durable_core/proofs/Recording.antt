@@ -10,7 +10,9 @@ use Rattle.half_store.specs.declared.header.Layout.{Layout}
 use Rattle.unit_journal.specs.Journal.{IsSettled, held_of, region_of, room_of}
 use Rattle.unit_journal.specs.declared.journal.Journal.{Journal}
 use Rattle.unit_journal.specs.Record.{Entry, laid}
+use Rattle.unit_journal.specs.Staged.{IsAtRest, journal_of as journal_in}
 use Rattle.unit_journal.specs.Stands.{Stands}
+use Rattle.unit_journal.specs.declared.staged.Staged.{Staged}
 use Rattle.unit_records.specs.MadeRecords.{MadeRecords, with_done}
 use Rattle.unit_records.specs.Records.{UnitRecord, entry_of}
 use Rattle.unit_records.specs.Room.{held, released, taken}
@@ -20,7 +22,7 @@ use Rattle.recovery.specs.Laws.{HeldForDoubts, held_for}
 use Rattle.core_model.specs.Step.{CoreState}
 use Rattle.recovery.specs.Part.{durable_part}
 use Rattle.recovery.specs.Kept.{IsKept}
-use Rattle.journal_recorder.specs.Recording.{IsLeftOpen, Records, disk_of, has_failed, journal_of, layout_of, made_of}
+use Rattle.journal_recorder.specs.Recording.{IsLeftOpen, Records, disk_of, has_failed, journal_of, layout_of, made_of, staged_of}
 use Rattle.journal_recorder.specs.declared.recorder.DiskRecorder.{DiskRecorder}
 use Rattle.recovery.specs.Opens.{Holds}
 use Rattle.recovery.specs.ImageLaws.{RecordsStay}
@@ -67,12 +69,15 @@ settled_still modelled old new j es stays settled = record {
   next = settled.next;
 }
 
--- who records has its journal, its layout and the records that were made, and nothing was written
+-- who records has its journal and what is on its way, its layout and the records that were made, and nothing was written
 pub record RestsOn {D : Type 0} (life : D → Life) (r after : DiskRecorder D) : Type 0 where
   pub disk : Stays (life (disk_of r)) (life (disk_of after))
-  pub journal : journal_of after ≡ journal_of r
+  pub staged : staged_of after ≡ staged_of r
   pub layout : layout_of after ≡ layout_of r
   pub made : made_of after ≡ made_of r
+
+pub same_journal : {D : Type 0} (life : D → Life) (r after : DiskRecorder D) → RestsOn life r after → journal_of after ≡ journal_of r
+same_journal life r after rests = ap (λ (s : Staged). journal_in s) rests.staged
 
 -- a core that has failed does nothing
 pub stays_failed : {D : Type 0} (modelled : Bool) (life : D → Life) → OneCallIsMade life → (s : OnDisk D) → s.is_failed ≡ true → Journaled modelled (shown_on life s) (shown_on life s)
@@ -90,7 +95,7 @@ module _ {D : Type 0} (modelled : Bool) (life : D → Life) (name : List ℕ) wh
   untouched r = record { stays = Stays-refl (life (disk_of r)); moment = refl; faults = refl }
 
   pub rests : (r : DiskRecorder D) → RestsOn life r r
-  rests r = record { disk = Stays-refl (life (disk_of r)); journal = refl; layout = refl; made = refl }
+  rests r = record { disk = Stays-refl (life (disk_of r)); staged = refl; layout = refl; made = refl }
 
   pub unchanged : (s : CoreState) (r : DiskRecorder D) → IsUnchanged (shown_on life (core_on name s r)) (shown_on life (core_on name s r))
   unchanged s r = record { name = refl; state = refl; disk = untouched r; layout = refl; room = refl; is_failed = refl; made = refl }
@@ -103,7 +108,7 @@ module _ {D : Type 0} (modelled : Bool) (life : D → Life) (name : List ℕ) wh
     state = refl;
     disk = record { stays = rests.disk; faults = faults };
     layout = rests.layout;
-    room = ap (λ (j : Journal). room_of j) rests.journal;
+    room = ap (λ (j : Journal). room_of j) (same_journal life r after rests);
     is_failed = failed;
     made = rests.made;
   }
@@ -133,21 +138,22 @@ module _ {D : Type 0} (modelled : Bool) (life : D → Life) (name : List ℕ) wh
         here : (there : IsOnDisk modelled life name s r) → Holds name (layout_of after) (region_of (journal_of after)) there.entries (durable_part new) (life (disk_of after)).seen
         here there =
             subst (λ (l : Layout). Holds name l (region_of (journal_of after)) there.entries (durable_part new) (life (disk_of after)).seen) (sym stays.layout)
-            (subst (λ (j : Journal). Holds name (layout_of r) (region_of j) there.entries (durable_part new) (life (disk_of after)).seen) (sym stays.journal)
+            (subst (λ (j : Journal). Holds name (layout_of r) (region_of j) there.entries (durable_part new) (life (disk_of after)).seen) (sym (same_journal life r after stays))
             (subst (λ (d : Durable). Holds name (layout_of r) (region_of (journal_of r)) there.entries d (life (disk_of after)).seen) (sym same)
             (subst (λ (i : List ℕ). Holds name (layout_of r) (region_of (journal_of r)) there.entries (durable_part s) i) (sym stays.disk.same) there.holds)))
 
         pub read_recorded : IsKept new → IsRecorded modelled life name new after
         read_recorded kept = record {
           kept = kept;
-          held = ap (λ (j : Journal). held_of j) stays.journal ∙ is.held ∙ ap (λ (d : Durable). held_for (layout_of r) d.doubts) (sym same) ∙ ap (λ (l : Layout). held_for l (durable_part new).doubts) (sym stays.layout);
-          inside = subst (λ (j : Journal). end_of (region_of j) ≤ length (life (disk_of after)).seen) (sym stays.journal)
+          rest = subst IsAtRest (sym stays.staged) is.rest;
+          held = ap (λ (j : Journal). held_of j) (same_journal life r after stays) ∙ is.held ∙ ap (λ (d : Durable). held_for (layout_of r) d.doubts) (sym same) ∙ ap (λ (l : Layout). held_for l (durable_part new).doubts) (sym stays.layout);
+          inside = subst (λ (j : Journal). end_of (region_of j) ≤ length (life (disk_of after)).seen) (sym (same_journal life r after stays))
               (subst (λ (i : List ℕ). end_of (region_of (journal_of r)) ≤ length i) (sym stays.disk.same) is.inside);
           on_disk = λ modelled_disk still.
               let there = is.on_disk modelled_disk going in
               record {
                 entries = there.entries;
-                settled = subst (λ (j : Journal). IsSettled modelled (life (disk_of after)) j there.entries) (sym stays.journal) (settled_still modelled (life (disk_of r)) (life (disk_of after)) (journal_of r) there.entries stays.disk there.settled);
+                settled = subst (λ (j : Journal). IsSettled modelled (life (disk_of after)) j there.entries) (sym (same_journal life r after stays)) (settled_still modelled (life (disk_of r)) (life (disk_of after)) (journal_of r) there.entries stays.disk there.settled);
                 holds = here there;
                 none_begun = ap (λ (m : MadeRecords). m.begun) stays.made ∙ there.none_begun;
               };
@@ -222,6 +228,7 @@ module _ {D : Type 0} (modelled : Bool) (life : D → Life) (name : List ℕ) wh
         pub record_recorded : IsKept new → IsRecorded modelled life name new after
         record_recorded kept = record {
           kept = kept;
+          rest = made.rest;
           held = (let sum : held_of (journal_of after) ≡ held_for (layout_of r) (durable_part new).doubts = omega (arith, made.held, holds_for, is.held) in sum) ∙ ap (λ (l : Layout). held_for l (durable_part new).doubts) (sym made.layout);
           inside = subst (λ (g : Region). end_of g ≤ length (life (disk_of after)).seen) (sym made.region) (subst (λ (n : ℕ). end_of (region_of (journal_of r)) ≤ n) (sym made.others.size) is.inside);
           on_disk = λ modelled_disk still. record_on_disk modelled_disk;
@@ -249,6 +256,7 @@ module _ {D : Type 0} (modelled : Bool) (life : D → Life) (name : List ℕ) wh
         pub left_recorded : IsRecorded modelled life name s after
         left_recorded = record {
           kept = is.kept;
+          rest = left.rest;
           held = ap (λ (j : Journal). held_of j) left.journal ∙ is.held ∙ ap (λ (l : Layout). held_for l (durable_part s).doubts) (sym left.layout);
           inside = subst (λ (j : Journal). end_of (region_of j) ≤ length (life (disk_of after)).seen) (sym left.journal) (subst (λ (n : ℕ). end_of (region_of (journal_of r)) ≤ n) (sym left.others.size) is.inside);
           on_disk = λ modelled_disk still. absurd (false≢true (sym still ∙ left.failed));

@@ -237,6 +237,7 @@ module _ {D : Type 0} (modelled : Bool) (life : D → Life) (name : List ℕ) (l
   switched : (new : DiskRecorder D) → Switches modelled life r tables fs hold new → IsRecorded modelled life name s new
   switched new w = record {
     kept = is.kept;
+    rest = w.stays.rest;
     held = w.held ∙ bytes ∙ ap (λ (l : Layout). held_for l (durable_part s).doubts) (sym w.layout);
     inside = w.inside;
     on_disk = λ m still.
@@ -261,6 +262,7 @@ module _ {D : Type 0} (modelled : Bool) (life : D → Life) (name : List ℕ) (l
   kept : (new : DiskRecorder D) → KeepsOld modelled life r tables fs hold new → IsRecorded modelled life name s new
   kept new k = record {
     kept = is.kept;
+    rest = k.stays.rest;
     held = still_held new k.journal k.layout;
     inside = inside_still new k.journal k.stays.size;
     on_disk = λ m still.
@@ -282,6 +284,7 @@ module _ {D : Type 0} (modelled : Bool) (life : D → Life) (name : List ℕ) (l
   left_open : (new : DiskRecorder D) → LeavesOpen modelled life r tables fs hold new → IsRecorded modelled life name s new
   left_open new l = record {
     kept = is.kept;
+    rest = l.stays.rest;
     held = still_held new l.journal l.layout;
     inside = inside_still new l.journal l.stays.size;
     on_disk = λ m still. absurd (false≢true (sym still ∙ l.failed));

@@ -66,9 +66,3 @@ pub record ArePagesInside (size : ℕ) (a : Active) : Type 0 where
   pub small : a.region.at ≤ 2 ^ 40
   pub inside : a.region.at ≤ size
   pub apart : end_of a.region - half_len size + 8192 * a.pages ≤ a.region.at
-
--- the region has a byte at least, and lies in the disk
-pub record IsInside (size : ℕ) (region : Region) : Type 0 where
-  pub some : 0 < region.length
-  pub small : region.length ≤ 2 ^ 32
-  pub inside : end_of region ≤ size

@@ -3,7 +3,8 @@
 ghost use Rattle.std.specs.Prelude.{◌≡◌, ◌+◌, ◌*◌, IfOk, IsTrue, Ok, length};
 ghost use Rattle.drda_disk.specs.Disk.{Stays};
 ghost use Rattle.half_store.specs.Active.{Store, active_of};
-ghost use Rattle.durable_core.specs.Reads.{ArePagesInside, Counts, IsHead, IsInside, IsPlain, TellsStore};
+ghost use Rattle.durable_core.specs.Reads.{ArePagesInside, Counts, IsHead, IsPlain, TellsStore};
+ghost use Rattle.unit_journal.specs.Adding.{IsPlace};
 
 use crate::errors::OpenError;
 use drda_disk::Disk;
@@ -15,7 +16,7 @@ use std::alloc::Global;
 pub(crate) fn read_head<D: Disk>(alloc: Global, disk: &mut D) -> Result<Active, OpenError>
     ensures head { IsTrue D.is_modelled → IfOk result (IsHead (D.life disk.old).seen) }
     ensures pages { IfOk result (ArePagesInside (length (D.life disk.old).seen)) }
-    ensures journal { IfOk result (λ active. IsInside (length (D.life disk.old).seen) active.region) }
+    ensures journal { IfOk result (λ active. IsPlace (length (D.life disk.old).seen) active.region) }
     ensures opens { (store : Store) → IsTrue D.is_modelled → active_of (D.life disk.old).seen ≡ Ok store → IsPlain result }
     ensures tells { IsTrue D.is_modelled → TellsStore result (D.life disk.old).seen }
     ensures stays { Stays (D.life disk.old) (D.life disk.new) }

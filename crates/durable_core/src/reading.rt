@@ -2,6 +2,7 @@
 
 ghost use Rattle.std.specs.Prelude.{◌≡◌, IfOk, IsTrue, List, ℕ, length, true};
 ghost use Rattle.drda_disk.specs.Disk.{Only, Stays};
+ghost use Rattle.unit_journal.specs.Adding.{IsPlace};
 ghost use Rattle.unit_journal.specs.Journal.{held_of, region_of};
 ghost use Rattle.unit_journal.specs.Opened.{IsOpened};
 ghost use Rattle.unit_journal.specs.Record.{Entry, entries_of};
@@ -17,7 +18,7 @@ ghost use Rattle.recovery.specs.Journal.{Leads, StopsAt};
 ghost use Rattle.recovery.specs.Known.{AreKnown};
 ghost use Rattle.recovery.specs.Replay.{durable_of, pages_of as replayed_pages};
 ghost use Rattle.durable_core.specs.Found.{StandInFront};
-ghost use Rattle.durable_core.specs.Reads.{ArePagesInside, Counts, IsInside, IsPlain, TellsDamage};
+ghost use Rattle.durable_core.specs.Reads.{ArePagesInside, Counts, IsPlain, TellsDamage};
 
 use crate::errors::OpenError;
 use drda_disk::{Disk, Region};
@@ -72,7 +73,7 @@ pub(crate) fn read_journal<D: Disk>(
     disk: &mut D,
     region: Region,
 ) -> Result<(Journal, Vec<Record>), OpenError>
-    requires inside { IsInside (length (D.life disk.old).seen) region }
+    requires place { IsPlace (length (D.life disk.old).seen) region }
     requires settled { Only (D.life disk.old) }
     ensures records { IsTrue D.is_modelled → IfOk result (λ found. IsOpened D.is_modelled (D.life disk.new) region (entries_of found.1.items) found) }
     ensures stand { IsTrue D.is_modelled → IfOk result (λ found. Stands region (entries_of found.1.items) (D.life disk.old).seen) }

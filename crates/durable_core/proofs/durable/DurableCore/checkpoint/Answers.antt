@@ -47,6 +47,7 @@ checkpoint-requires g c =
     let going : has_failed (recorder_of c.self.inside.core) ≡ false = search rules in
     record {
       going = going;
+      rest = c.self.invariant.0.rest;
       inside = c.self.invariant.0.inside;
       pages = c.self.invariant.1;
     }
