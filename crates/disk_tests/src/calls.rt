@@ -82,8 +82,26 @@ pub fn change<D: Disk>(
     Ok(change_bytes(disk, verb, at, &bytes))
 }
 
+// Flushes from outside, with bytes put meanwhile where there are some, and settles: tells what the flush says, and what settling answers.
+fn tell_flush<D: Disk>(
+    alloc: Global,
+    disk: &mut D,
+    rest: &str,
+    out: &mut String,
+) -> Result<(), AllocError> {
+    let flusher = disk.flusher();
+    if !rest.is_empty() {
+        tell(out, &change(alloc, disk, "put", rest)?)?;
+    }
+    let flushed = flusher.flush();
+    tell_is(out, "failed", flushed.is_failed())?;
+    tell(out, &flushed)?;
+    tell(out, &disk.settle(flushed))
+}
+
 /// Tells what a call answers: `read` the first 16 bytes, `size` the number of bytes and of failures, and else whether the change was made:
-/// `sync`, and `put` and `through` with a place and bytes behind them. `try` puts bytes too, and tells whether it is counted where it fails.
+/// `sync`, and `put` and `through` with a place and bytes behind them. `try` puts bytes too, and tells whether it is counted where it fails; `flush` flushes
+/// from outside and settles.
 pub fn tell_call<D: Disk>(
     alloc: Global,
     disk: &mut D,
@@ -100,6 +118,7 @@ pub fn tell_call<D: Disk>(
             let counted = failures.saturating_add(u64::from(done.is_err()));
             tell_is(out, "counted", disk.failures() == counted)
         }
+        "flush" => tell_flush(alloc, disk, rest, out),
         _ => tell(out, &change(alloc, disk, verb, rest)?),
     }
 }

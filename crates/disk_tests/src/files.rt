@@ -152,7 +152,8 @@ impl Files {
     }
 
     /// Does a step with a real file, and tells what it comes to. `create`, `open`, `cut`, `lock`, `locked` and `remove` have a file's name
-    /// behind them, a dot that of the folder that the program runs in; `close` closes the disk, and else it is a call of it.
+    /// behind them, a dot that of the folder that the program runs in, and
+    /// /dev/null that device, which can't be flushed; `close` closes the disk, and else it is a call of it.
     pub fn answer_real(
         &mut self,
         rt: &HostRuntime,
@@ -163,7 +164,7 @@ impl Files {
         match verb {
             "create" | "open" | "cut" | "lock" | "locked" | "remove" => {
                 let (name, number) = rest.split_once(' ').unwrap_or((rest, ""));
-                if name == "." {
+                if name == "." || name == "/dev/null" {
                     return self.answer_at(rt, name, verb, 0, out);
                 }
                 let path = path_of(rt, name)?;

@@ -1,6 +1,6 @@
 //! Calls on journals whose conditions are tested. One that does not hold shows as a fault of the device.
-ghost use Rattle.std.specs.Prelude.{◌^◌, ◌<◌, ◌≤◌, IsTrue, length};
-ghost use Rattle.drda_disk.specs.Region.{end_of};
+ghost use Rattle.std.specs.Prelude.{IsTrue, length};
+ghost use Rattle.unit_journal.specs.Adding.{IsPlace};
 
 use crate::calls::{number_in, tell, tell_both};
 use drda_disk::{Disk, Region};
@@ -11,9 +11,7 @@ use unit_journal::{
 };
 
 fn may_be_a_journal<D: Disk>(disk: &D, region: Region) -> bool
-    ensures some { IsTrue result → 0 < region.length }
-    ensures small { IsTrue result → region.length ≤ 2 ^ 32 }
-    ensures inside { IsTrue result → end_of region ≤ length (D.life disk.now).seen }
+    ensures { IsTrue result → IsPlace (length (D.life disk.now).seen) region }
 {
     0 < region.length && region.length <= 1 << 32 && region.end() <= disk.size()
 }
@@ -96,8 +94,8 @@ pub fn tell_begun(alloc: Global, out: &mut String) -> Result<(), AllocError> {
     tell_both(out, ("extended", is_extended), ("laid", is_laid))
 }
 
-// The group of so many records, the first a commit of one byte and the others prepares of two.
-fn group_of(alloc: Global, count: usize) -> Result<LaidGroup, AllocError> {
+/// The group of so many records, the first a commit of one byte and the others prepares of two.
+pub fn group_of(alloc: Global, count: usize) -> Result<LaidGroup, AllocError> {
     let mut group = LaidGroup::of(laid_record(alloc, "commit", "01")?);
     let next = laid_record(alloc, "prepare", "0203")?;
     for _ in 1..count {

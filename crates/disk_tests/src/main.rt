@@ -7,6 +7,7 @@ mod fake_file;
 mod files;
 mod journals;
 mod memory;
+mod staged;
 
 use crate::files::Files;
 use crate::memory::Memory;

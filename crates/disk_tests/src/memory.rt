@@ -4,19 +4,22 @@ use crate::calls::{
     change, image, number_in, numbers_in, tell, tell_both, tell_call, tell_is, tell_text,
 };
 use crate::journals::{add, count, open, settle, tell_begun, tell_record};
+use crate::staged::{go_on, put};
 use drda_disk::{Disk, FuseDisk, MemDisk, Region};
 use std::alloc::{AllocError, Global};
 use std::mem;
 use test_bytes::bytes_of;
-use unit_journal::{AppendError, Journal, Record};
+use unit_journal::{AppendError, Journal, Record, Staged};
 
-/// A disk in memory behind a fuse, the region of a journal on it, the journal, if one is open, and the records that were found last.
+/// A disk in memory behind a fuse, the region of a journal on it, the journal, if one is open, by itself or with groups on their way, and the
+/// records that were found last.
 #[derive(Drop)]
 pub struct Memory {
     alloc: Global,
     disk: FuseDisk<MemDisk>,
     region: Region,
     journal: Option<Journal>,
+    staged: Option<Staged>,
     records: Vec<Record>,
 }
 
@@ -74,6 +77,7 @@ impl Memory {
             disk: fresh(alloc, "0")?,
             region: Region { at: 0, length: 0 },
             journal: None,
+            staged: None,
             records: Vec::new(alloc),
         })
     }
@@ -199,6 +203,52 @@ impl Memory {
         tell(out, &told)
     }
 
+    // The journal with no group on its way.
+    fn stage(&mut self) -> Result<(), AllocError> {
+        self.staged = match self.journal.take() {
+            Some(journal) => Some(Staged::at_rest(journal)),
+            None => None,
+        };
+        Ok(())
+    }
+
+    // Lays a group, or adds it at once. A journal whose device failed is not used again.
+    fn put(&mut self, verb: &str, asked: &str, out: &mut String) -> Result<(), AllocError> {
+        let Some(staged) = &mut self.staged else {
+            return tell_text(out, "no journal");
+        };
+        let told = put(self.alloc, staged, &mut self.disk, verb, numbers_in(asked))?;
+        if told == Err(AppendError::DeviceFailed) {
+            self.staged = None;
+        }
+        tell(out, &told)
+    }
+
+    // Opens a gate, settles, or gives up what was laid.
+    fn go_on(&mut self, verb: &str, out: &mut String) -> Result<(), AllocError> {
+        let Some(staged) = &mut self.staged else {
+            return tell_text(out, "no journal");
+        };
+        let told = go_on(staged, &mut self.disk, verb);
+        if told.is_err() {
+            self.staged = None;
+        }
+        tell(out, &told)
+    }
+
+    // What is on its way, and what is left.
+    fn tell_stages(&self, out: &mut String) -> Result<(), AllocError> {
+        let Some(staged) = &self.staged else {
+            return tell_text(out, "no journal");
+        };
+        tell_both(out, ("gated", staged.gated()), ("laid", staged.laid()))?;
+        tell_both(
+            out,
+            ("room", staged.room()),
+            ("held", staged.journal().held()),
+        )
+    }
+
     fn tell_room(&self, out: &mut String) -> Result<(), AllocError> {
         match &self.journal {
             Some(journal) => { tell_both(out, ("room", journal.room()), ("held", journal.held())) }
@@ -242,7 +292,9 @@ impl Memory {
     }
 
     // `journal` begins one in a region; `start`, `lay`, `open` and others concern it. `found` tells how many records a crash leaves of a copy,
-    // and `with` how many are there with another byte. All else is a call of the disk.
+    // and `with` how many are there with another byte. `stage` takes groups through it: `laid` lays one of so many records, with the bytes that
+    // are held back and released behind their number, and `whole` adds one at once; `gate`, `settle` and `drop` go on. All else is a call of the
+    // disk.
     fn answer_of_journal(
         &mut self,
         verb: &str,
@@ -260,6 +312,10 @@ impl Memory {
             "with" => self.tell_changed(rest, out),
             "begun" => tell_begun(self.alloc, out),
             "record" => tell_record(self.alloc, rest, out),
+            "stage" => self.stage(),
+            "laid" | "whole" => self.put(verb, rest, out),
+            "gate" | "settle" | "drop" => self.go_on(verb, out),
+            "stages" => self.tell_stages(out),
             _ => tell_call(self.alloc, &mut self.disk, verb, rest, out),
         }
     }

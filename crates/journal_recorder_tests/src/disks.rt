@@ -1,7 +1,7 @@
 //! Recorders over disks in memory behind a fuse.
 
-ghost use Rattle.std.specs.Prelude.{◌^◌, ◌<◌, ◌≤◌, IsTrue, length};
-ghost use Rattle.drda_disk.specs.Region.{end_of};
+ghost use Rattle.std.specs.Prelude.{IsTrue, length};
+ghost use Rattle.unit_journal.specs.Adding.{IsPlace};
 
 use crate::keeper::Keeper;
 use crate::untold::Untold;
@@ -22,9 +22,7 @@ const TWO_MIB: usize = 2_097_152;
 const LAYOUT_AT: usize = 8_216;
 
 fn may_be_a_journal<D: Disk>(disk: &D, region: Region) -> bool
-    ensures some { IsTrue result → 0 < region.length }
-    ensures small { IsTrue result → region.length ≤ 2 ^ 32 }
-    ensures inside { IsTrue result → end_of region ≤ length (D.life disk.now).seen }
+    ensures { IsTrue result → IsPlace (length (D.life disk.now).seen) region }
 {
     0 < region.length && region.length <= 1 << 32 && region.end() <= disk.size()
 }

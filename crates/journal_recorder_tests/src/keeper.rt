@@ -1,9 +1,11 @@
-//! A recorder with the tables of its store. What may not be asked of it shows as want of memory, or as refused.
+//! A recorder with the tables of its store. What may not be asked of it shows as want of memory, as refused, or as a device
+//! that failed.
 
 ghost use Rattle.std.specs.Prelude.{◌≡◌, ◌≤◌, IsTrue, length, false};
 ghost use Rattle.drda_disk.specs.Region.{end_of};
 ghost use Rattle.unit_journal.specs.Journal.{held_of, region_of};
-ghost use Rattle.journal_recorder.specs.Recording.{disk_of, has_failed, journal_of};
+ghost use Rattle.unit_journal.specs.Staged.{IsAtRest, MayOpen, laid_of};
+ghost use Rattle.journal_recorder.specs.Recording.{disk_of, has_failed, journal_of, staged_of};
 
 use crate::records::released_by;
 use ahead_view::{ReadError, Source};
@@ -13,7 +15,7 @@ use paged_tables::{JudgedRows, PagedTables};
 use std::alloc::{AllocError, Global};
 use std::marker::Model;
 use tables::{Change, Rows};
-use unit_records::{GroupError, RecordContents, RecordError, Recorder};
+use unit_records::{DeviceFailed, GroupError, RecordContents, RecordError, Recorder};
 
 /// A recorder, and tables whose pages it can read.
 #[derive(Drop)]
@@ -34,13 +36,49 @@ impl<D: Disk> Model for Keeper<D> {
     ghost invariant = { λ k. HasPages D.is_modelled D.life k.recorder k.tables.tables };
 }
 
-// Whether a record that releases so much may be asked for.
-fn may_record<D: Disk>(recorder: &DiskRecorder<D>, release: usize) -> bool
+// Whether records that release so much may be laid.
+fn may_lay<D: Disk>(recorder: &DiskRecorder<D>, release: usize) -> bool
     ensures going { IsTrue result → has_failed recorder.now ≡ false }
+    ensures none_laid { IsTrue result → laid_of (staged_of recorder.now) ≡ 0 }
     ensures inside { IsTrue result → end_of (region_of (journal_of recorder.now)) ≤ length (D.life (disk_of recorder.now)).seen }
     ensures released { IsTrue result → release ≤ held_of (journal_of recorder.now) }
 {
     !recorder.is_failed()
+        && recorder.staged().laid() == 0
+        && recorder.region().end() <= recorder.disk().size()
+        && release <= recorder.held()
+}
+
+// Whether those that were laid may be opened.
+fn may_open<D: Disk>(recorder: &DiskRecorder<D>) -> bool
+    ensures going { IsTrue result → has_failed recorder.now ≡ false }
+    ensures may { IsTrue result → MayOpen (length (D.life (disk_of recorder.now)).seen) (staged_of recorder.now) }
+{
+    !recorder.is_failed()
+        && recorder.staged().laid() > 0
+        && recorder.staged().gated() == 0
+        && recorder.staged().is_settled()
+        && recorder.region().end() <= recorder.disk().size()
+}
+
+// Whether none are on their way.
+fn is_at_rest<D: Disk>(recorder: &DiskRecorder<D>) -> bool
+    ensures { IsTrue result → IsAtRest (staged_of recorder.now) }
+{
+    recorder.staged().gated() == 0
+        && recorder.staged().laid() == 0
+        && recorder.staged().is_settled()
+}
+
+// Whether a record that releases so much may be asked for.
+fn may_record<D: Disk>(recorder: &DiskRecorder<D>, release: usize) -> bool
+    ensures going { IsTrue result → has_failed recorder.now ≡ false }
+    ensures rest { IsTrue result → IsAtRest (staged_of recorder.now) }
+    ensures inside { IsTrue result → end_of (region_of (journal_of recorder.now)) ≤ length (D.life (disk_of recorder.now)).seen }
+    ensures released { IsTrue result → release ≤ held_of (journal_of recorder.now) }
+{
+    !recorder.is_failed()
+        && is_at_rest(recorder)
         && recorder.region().end() <= recorder.disk().size()
         && release <= recorder.held()
 }
@@ -97,6 +135,59 @@ impl<D: Disk> Keeper<D> {
             Err(GroupError::Refused) => Err(GroupError::Refused),
             Err(GroupError::DeviceFailed) => Err(GroupError::DeviceFailed),
         }
+    }
+
+    /// Lays these, to be opened at once.
+    pub fn lay_three(
+        &mut self,
+        first: RecordContents<'_>,
+        second: RecordContents<'_>,
+        third: RecordContents<'_>,
+    ) -> Result<(), GroupError> {
+        pages_are_kept::<D>();
+        let layout = self.recorder.layout();
+        let release = released_by(layout, first)
+            + released_by(layout, second)
+            + released_by(layout, third);
+        if !may_lay(&self.recorder, release) {
+            return Err(GroupError::Refused);
+        }
+        match self.recorder.lay_all(&[first, second, third]) {
+            Ok(()) => Ok(()),
+            Err(GroupError::Refused) => Err(GroupError::Refused),
+            Err(GroupError::DeviceFailed) => Err(GroupError::DeviceFailed),
+        }
+    }
+
+    /// Opens those that were laid.
+    pub fn open_laid(&mut self) -> Result<(), DeviceFailed> {
+        pages_are_kept::<D>();
+        if !may_open(&self.recorder) {
+            return Err(DeviceFailed);
+        }
+        match self.recorder.open_laid() {
+            Ok(()) => Ok(()),
+            Err(DeviceFailed) => Err(DeviceFailed),
+        }
+    }
+
+    /// Settles, by a flush from outside.
+    pub fn settle(&mut self) -> Result<(), DeviceFailed> {
+        pages_are_kept::<D>();
+        if self.recorder.is_failed() {
+            return Err(DeviceFailed);
+        }
+        let flushed = self.recorder.flusher().flush();
+        match self.recorder.settle(flushed) {
+            Ok(()) => Ok(()),
+            Err(DeviceFailed) => Err(DeviceFailed),
+        }
+    }
+
+    /// Gives up those that were laid.
+    pub fn drop_laid(&mut self) {
+        pages_are_kept::<D>();
+        self.recorder.drop_laid();
     }
 
     /// A checkpoint with no records, that holds so many bytes back.
