@@ -54,8 +54,9 @@ fn first_keys<D: Disk>(
     let mut keys = Vec::new(alloc);
     for page in 0..base.pages {
         let key = first_key(alloc, pager, base.at + 8_192 * page)?;
-        if keys.push(key).is_err() {
-            return Err(PageFault::NoMemory);
+        match keys.push(key) {
+            Ok(()) => {}
+            Err(_) => return Err(PageFault::NoMemory),
         }
     }
     Ok(keys)

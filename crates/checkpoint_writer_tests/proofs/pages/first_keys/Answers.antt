@@ -11,5 +11,5 @@ first_key-requires g c = omega (arith, c.requires.inside, ap length c.loop-page.
 pub loop-page-preserved : goal.loop-page-preserved
 loop-page-preserved g c = record {
   stays = Stays-trans _ _ _ c.loop-page.invariant.stays c.first_key.ensures;
-  count = omega (arith, ap length c.push.ensures.items, length-append c.loop-page.keys.items (c.in_ok-key.key ∷ []), c.loop-page.invariant.count);
+  count = omega (arith, ap length c.in-Ok.ensures.items, length-append c.loop-page.keys.items (c.in_ok-key.key ∷ []), c.loop-page.invariant.count);
 }
