@@ -1,9 +1,6 @@
 //! Conversations that are served over one core, a thread for each.
 
-use crate::boards::{Board, LIMIT, Stand};
-use crate::clocks::Ahead;
-use crate::stages::{Cue, Stage};
-use crate::standing::StandingDisk;
+use crate::stages::{Cue, LIMIT, Stage};
 use crate::talks::{Checker, Talk, Tape};
 use conversation::Settings;
 use drda_disk::MemDisk;
@@ -12,57 +9,28 @@ use durable_core::{DurableCore, open};
 use shared_node::{Book, Shared};
 use std::alloc::Global;
 use std::marker::{Brand, Sync};
-use std::rt::Files;
 use std::sync::Wait;
 use std::thread::{Threads, yield_now};
 use std::time::Clock;
 use test_nodes::fresh_store;
 
-/// A disk in memory that may stand in its syncs.
-pub type Stood<'r, R> = StandingDisk<'r, R, MemDisk>;
+/// A core over a disk in memory.
+pub type Core = DurableCore<MemDisk>;
 
-/// A core over such a disk.
-pub type Core<'r, R> = DurableCore<Stood<'r, R>>;
-
-/// Where plays are played: what they run on, and the board on which they tell.
-#[derive(Drop)]
-pub struct House<'r, R> {
-    pub rt: &'r R,
-    pub alloc: Global,
-    pub board: &'r Board,
-}
-
-impl<'r, R: Wait + Files> House<'r, R> {
-    fn opened(&self, disk: MemDisk) -> Option<Core<'r, R>> {
-        match open(
-            self.alloc,
-            StandingDisk::new(self.rt, self.alloc, self.board, disk),
-        ) {
-            Ok(core) => Some(core),
-            Err(_) => None,
-        }
-    }
-
-    /// The core of a fresh store of the name SHOP. None without memory.
-    pub fn fresh_core(&self) -> Option<Core<'r, R>> {
-        self.opened(fresh_store(self.alloc)?)
-    }
-
-    /// What is opened of a core's disk behind a crash, which leaves of each write that was not synced what `pick` says. None
-    /// without memory.
-    pub fn crashed(&self, core: Core<'r, R>, pick: u64) -> Option<Core<'r, R>> {
-        self.opened(core.into_disk().into_inner().after_crash(pick))
+/// The core of a fresh store of the name SHOP. None without memory.
+pub fn fresh_core(alloc: Global) -> Option<Core> {
+    match open(alloc, fresh_store(alloc)?) {
+        Ok(core) => Some(core),
+        Err(_) => None,
     }
 }
 
-/// What conversations say, and where they and the disk wait for each other.
-#[derive(Clone, Copy)]
-pub struct Script<'a> {
-    pub cues: &'a [Cue],
-    pub stands: &'a [Stand],
-    pub talks: &'a [Talk],
-    /// The last conversation comes again and again, until it is heard.
-    pub is_crowd: bool,
+/// What is opened of a core's disk behind a crash, which leaves of each write that was not synced what `pick` says. None without memory.
+pub fn crashed(alloc: Global, core: Core, pick: u64) -> Option<Core> {
+    match open(alloc, core.into_disk().after_crash(pick)) {
+        Ok(core) => Some(core),
+        Err(_) => None,
+    }
 }
 
 /// What is left when all have ended: how many waited for too long, whether each has given its leave back, and
@@ -132,17 +100,20 @@ impl<'a> Streams for Callers<'a> {
     }
 }
 
-/// Serves the conversations of a script over a core, which is handed back. None without memory.
-pub fn play<'r, R: Threads + Wait + Clock + Files + Sync>(
-    house: &House<'r, R>,
-    core: Core<'r, R>,
-    script: Script<'_>,
-) -> Option<(Left, Core<'r, R>)> {
-    house.board.begin(house.rt, script.stands)?;
-    let stage = Stage::new(script.cues, house.board);
-    let (talks, again) = match script.talks.split_last() {
-        Some((last, others)) if script.is_crowd => (others, Some(last)),
-        _ => (script.talks, None),
+/// Serves these conversations over a core, which is handed back; they wait for each other by these cues. Where
+/// `is_crowd`, the last one comes again and again, until it is heard. None without memory.
+pub fn play<R: Threads + Wait + Clock + Sync>(
+    rt: &R,
+    alloc: Global,
+    core: Core,
+    cues: &[Cue],
+    talks: &[Talk],
+    is_crowd: bool,
+) -> Option<(Left, Core)> {
+    let stage = Stage::new(cues);
+    let (talks, again) = match talks.split_last() {
+        Some((last, others)) if is_crowd => (others, Some(last)),
+        _ => (talks, None),
     };
     let mut callers = Callers {
         stage: &stage,
@@ -152,9 +123,9 @@ pub fn play<'r, R: Threads + Wait + Clock + Files + Sync>(
         number: 0,
         tries: 0,
     };
-    let (book, is_idle) = serve(house, core, &stage, &mut callers)?;
+    let (book, is_idle) = serve(rt, alloc, core, &stage, &mut callers)?;
     let left = Left {
-        late: house.board.late(),
+        late: stage.late(),
         is_idle,
         is_failed: book.core().is_failed(),
     };
@@ -163,14 +134,14 @@ pub fn play<'r, R: Threads + Wait + Clock + Files + Sync>(
 
 // Serves the conversations of these callers over a core, for ana with the password pw. The book that is left, and whether all
 // leave came back to it. None without memory.
-fn serve<'r, R: Threads + Wait + Clock + Files + Sync>(
-    house: &House<'r, R>,
-    core: Core<'r, R>,
+fn serve<R: Threads + Wait + Clock + Sync>(
+    rt: &R,
+    alloc: Global,
+    core: Core,
     stage: &Stage<'_>,
     callers: &mut Callers<'_>,
-) -> Option<(Book<Stood<'r, R>>, bool)> {
-    let alloc = house.alloc;
-    let shared: Shared<Stood<'r, R>, Brand> = match Shared::new(alloc, core, u64::MAX) {
+) -> Option<(Book<MemDisk>, bool)> {
+    let shared: Shared<MemDisk, Brand> = match Shared::new(alloc, core, u64::MAX) {
         Ok(shared) => shared,
         Err(_) => return None,
     };
@@ -182,12 +153,8 @@ fn serve<'r, R: Threads + Wait + Clock + Files + Sync>(
         cursor_bytes: usize::MAX,
         failure: &failure,
     };
-    let rt = Ahead {
-        rt: house.rt,
-        board: house.board,
-    };
     serve_streams(
-        &rt, alloc, &shared, &settings, stage, &Silent, rules, callers,
+        rt, alloc, &shared, &settings, stage, &Silent, rules, callers,
     )
     .ok()?;
     match shared.close(Vec::new(alloc)) {

@@ -1,7 +1,6 @@
 //! Conversations over streams in memory: what they say, and whether they are answered as they should be.
 
-use crate::boards::LIMIT;
-use crate::stages::{Point, Stage};
+use crate::stages::{LIMIT, Point, Stage};
 use std::alloc::Global;
 use std::io::{self, Read, Write};
 use std::net::OpenStream;
