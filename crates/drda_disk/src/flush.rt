@@ -38,7 +38,7 @@ impl Flusher {
         }
     }
 
-    /// Flushes, by the system's fdatasync.
+    /// Flushes, by the system's fdatasync. That it failed is told to the disk, by what is handed out. Takes no memory.
     pub fn flush(self) -> Flushed {
         let Flusher { file, writes } = self;
         let Some(file) = file else {

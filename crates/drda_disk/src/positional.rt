@@ -53,10 +53,11 @@ pub trait PositionalFile {
         ensures durable { OnOk result (Only (life self.new)) }
         ensures stays { Stays (life self.old) (life self.new) };
 
-    /// What flushes it while it is read.
+    /// What flushes all that was written so far from outside, while others read it.
     fn flusher(&self) -> Flusher;
 
-    /// As `sync`, after a flush.
+    /// As `sync`, after a flush: no call where it succeeded and nothing was written since its flusher was made, an error
+    /// where it failed.
     fn settle(&mut self, flushed: Flushed) -> io::Result<()>
         ensures durable { OnOk result (Only (life self.new)) }
         ensures stays { Stays (life self.old) (life self.new) };

@@ -104,6 +104,7 @@ pub struct FilePath<'a, R> {
 }
 
 impl<'a, R: Files<File = File>> FilePath<'a, R> {
+    /// A path, with the memory that its file's second opening asks for.
     pub fn new(alloc: Global, rt: &'a R, path: &'a str) -> FilePath<'a, R> {
         FilePath { alloc, rt, path }
     }
