@@ -2,6 +2,7 @@ pub mod Adding
 pub mod Filling
 pub mod Told
 mod Writing
+mod GoingOn
 pub mod MergedRows
 mod EntryBytes
 mod Listing

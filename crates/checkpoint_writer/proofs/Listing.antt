@@ -4,14 +4,13 @@ use Rattle.std.specs.Prelude.{Result, Err}
 use Rattle.std.proofs.lemmas.List.{take_rest}
 use Rattle.row_pages.specs.Page.{Page}
 use Rattle.row_pages.specs.Laying.{laid, laid_behind}
-use Rattle.row_pages.specs.declared.page.PageKind.{PageKind}
 use Rattle.row_pages.specs.declared.page.PageKind.TheVariants as kind
 use Rattle.half_store.specs.Writing.{from_of, half_bytes_of, next_of}
 use Rattle.half_store.specs.declared.image.ImageWriter.{ImageWriter}
 use Rattle.checkpoint_writer.specs.Adding.{end_of_half}
 use Rattle.checkpoint_writer.specs.Catalogue.{Entry, HaveNames, entry_bytes, place_of, rows_of}
 use Rattle.checkpoint_writer.specs.Errors.{TellsFull}
-use Rattle.checkpoint_writer.specs.Laying.{IsLaying, StandAt, has_none}
+use Rattle.checkpoint_writer.specs.Laying.{IsLaying, has_none}
 use Rattle.checkpoint_writer.specs.declared.entry.TablePlace.{TablePlace}
 use Rattle.checkpoint_writer.specs.declared.errors.ImageError.{ImageError}
 use Rattle.checkpoint_writer.specs.declared.rows.RowWriter.{RowWriter}

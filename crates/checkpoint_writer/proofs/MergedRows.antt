@@ -16,7 +16,7 @@ use Rattle.half_store.specs.Writing.{from_of, half_bytes_of, next_of}
 use Rattle.half_store.specs.declared.image.ImageWriter.{ImageWriter}
 use Rattle.half_store.specs.declared.layout.Half.{Half}
 use Rattle.half_store.specs.declared.layout.Half.TheVariants.{First, Second}
-use Rattle.table_map.specs.Cursor.{GoesOn, IsLeft}
+use Rattle.table_map.specs.Cursor.{IsLeft}
 use Rattle.table_map.specs.Keyed.{first_keys, keyed_rows}
 use Rattle.table_map.specs.Stored.{AreAt, IsStored}
 use Rattle.table_map.specs.Table.{Table, rows_of_table, without_keys}
@@ -28,6 +28,7 @@ use Rattle.checkpoint_writer.specs.Adding.{end_of_half}
 use Rattle.checkpoint_writer.specs.Laying.{StandAt, has_none}
 use Rattle.checkpoint_writer.specs.Stored.{HaveKeys, IsImageOf, LieApart}
 use Rattle.checkpoint_writer.specs.Writing.{HasLaid}
+use Rattle.checkpoint_writer.specs.Steps.{LeavesBehind}
 use Rattle.checkpoint_writer.proofs.Told.{all_behind}
 use Rattle.checkpoint_writer.specs.declared.merging.TableWriter.{TableWriter}
 
@@ -83,7 +84,7 @@ begins modelled key_of file image writer page empty keys = record {
   keys = ap (λ (l : List (Vec ℕ)). map (λ key. key.items) l) keys;
 }
 
--- ---- a row
+-- ---- rows that are given
 
 pub told_so : (T S : Type 0) (e : ImageError) (end at : ℕ) → TellsFull {T = T} (Err e) end at → TellsFull {T = S} (Err e) end at
 told_so T S NoMemory end at tells = tt
@@ -91,68 +92,58 @@ told_so T S DeviceFailed end at tells = tt
 told_so T S Damaged end at tells = tt
 told_so T S (Full full) end at tells = tells
 
+-- what is told of some rows is told of the same ones
+pub told_of : (T : Type 0) {S : Type 0} (e : ImageError) (result : Result S ImageError) (end start : ℕ) (rows all : List (List ℕ)) → result ≡ Err e → rows ≡ all → TellsFull {T = T} (Err e) end (start + 8192 * length (laid rows)) → TellsFull result end (start + 8192 * length (laid all))
+told_of T {S = S} e result end start rows all is same tells =
+    subst (λ (r : Result S ImageError). TellsFull r end (start + 8192 * length (laid all))) (sym is)
+    (subst (λ (l : List (List ℕ)). TellsFull {T = S} (Err e) end (start + 8192 * length (laid l))) same (told_so T S e end (start + 8192 * length (laid rows)) tells))
+
 module _ (modelled : Bool) (key_of : List ℕ → List ℕ) (table : Table) (first : List ℕ) (begun : ImageWriter) (file : List ℕ) (image : ImageWriter) (writer : TableWriter) (cursor : RowCursor)
     (held : Merges modelled key_of table first begun file image writer cursor) where
-  -- the rows are laid in what is read now, too
-  pub same_file : (now : List ℕ) → now ≡ file → HasLaid modelled key_of now (next_of begun) image writer held.rows
-  same_file now same = subst (λ (f : List ℕ). HasLaid modelled key_of f (next_of begun) image writer held.rows) (sym same) held.laid
-
-  -- a row that was given, laid and noted
-  pub one_more : (mid new : List ℕ) (after : ImageWriter) (more : TableWriter) (next : RowCursor) (row : List ℕ) (noted noted_then : List (List ℕ)) → mid ≡ file
-      → HasLaid modelled key_of new (next_of begun) after more (held.rows ++ row ∷ []) → Torn (next_of image) (end_of_half image - next_of image) mid new
+  -- rows that were given, laid and noted
+  pub more_given : (new : List ℕ) (after : ImageWriter) (more : TableWriter) (next : RowCursor) (given noted noted_then : List (List ℕ))
+      → HasLaid modelled key_of new (next_of begun) after more (held.rows ++ given) → Torn (next_of image) (end_of_half image - next_of image) file new
       → from_of image ≡ from_of begun → half_bytes_of image ≡ half_bytes_of begun → next.base.at + 8192 * next.base.pages ≡ table.places.at + 8192 * length table.places.keys → table.places.at ≤ next.base.at
-      → ((left : Rows) → IsTrue modelled → IsLeft key_of file cursor left → GoesOn key_of file left row next)
-      → noted ≡ held.rows → noted_then ≡ noted ++ row ∷ [] → MergesNoted modelled key_of table first begun new after more next noted_then
-  one_more mid new after more next row noted noted_then same laid torn from half end forward gives old_noted noted_more = record {
+      → ((left : Rows) → IsTrue modelled → IsLeft key_of file cursor left → LeavesBehind key_of file left given next)
+      → noted ≡ held.rows → noted_then ≡ noted ++ given → MergesNoted modelled key_of table first begun new after more next noted_then
+  more_given new after more next given noted noted_then laid torn from half end forward gives old_noted noted_more = record {
     held = record {
-      rows = held.rows ++ row ∷ [];
+      rows = held.rows ++ given;
       laid = laid;
       given = λ pages honest is apart.
           let so = held.given pages honest is apart in
           let goes = gives so.left honest so.is in
           record {
             left = goes.more;
-            is = left_moves key_of mid new (next_of image) (end_of_half image - next_of image) next goes.more torn
+            is = left_moves key_of file new (next_of image) (end_of_half image - next_of image) next goes.more torn
                 (⊎_elim (λ low. inl (omega (arith, low, end, from))) (λ high. inr (omega (arith, high, forward, from, half, image.fits))) apart)
-                (subst (λ (f : List ℕ). IsLeft key_of f next goes.more) (sym same) goes.is);
+                goes.is;
             same =
-                append_assoc held.rows (row ∷ []) (without_keys goes.more)
-                ∙ ap (λ (l : Rows). held.rows ++ without_keys l) (sym goes.same)
+                append_assoc held.rows given (without_keys goes.more)
+                ∙ ap (λ (l : List (List ℕ)). held.rows ++ l) (sym goes.same)
                 ∙ so.same;
           };
     };
-    same = noted_more ∙ ap (λ (rows : List (List ℕ)). rows ++ row ∷ []) old_noted;
+    same = noted_more ∙ ap (λ (rows : List (List ℕ)). rows ++ given) old_noted;
   }
 
   -- where a page has no room, all pages have none
-  told_all : {S : Type 0} (e : ImageError) (result : Result S ImageError) (rows all : List (List ℕ)) → result ≡ Err e → from_of image ≡ from_of begun → half_bytes_of image ≡ half_bytes_of begun → rows ≡ all
-      → TellsFull {T = Unit {0}} (Err e) (end_of_half image) (next_of begun + 8192 * length (laid rows)) → TellsFull result (end_of_half begun) (next_of begun + 8192 * length (laid all))
-  told_all {S = S} e result rows all is_err from half same tells =
-      subst (λ (r : Result S ImageError). TellsFull r (end_of_half begun) (next_of begun + 8192 * length (laid all))) (sym is_err)
-      (subst (λ n. TellsFull {T = S} (Err e) n (next_of begun + 8192 * length (laid all))) (ap₂ (λ a b. a + b) from half)
-      (subst (λ (l : List (List ℕ)). TellsFull {T = S} (Err e) (end_of_half image) (next_of begun + 8192 * length (laid l))) same (told_so (Unit {0}) S e (end_of_half image) (next_of begun + 8192 * length (laid rows)) tells)))
-
-  pub full_before : {S : Type 0} (e : ImageError) (row : List ℕ) (next : RowCursor) → from_of image ≡ from_of begun → half_bytes_of image ≡ half_bytes_of begun
-      → ((left : Rows) → IsTrue modelled → IsLeft key_of file cursor left → GoesOn key_of file left row next)
-      → ((rest : List (List ℕ)) → TellsFull {T = Unit {0}} (Err e) (end_of_half image) (next_of begun + 8192 * length (laid (held.rows ++ row ∷ rest))))
+  pub no_room_for : (T : Type 0) {S : Type 0} (e : ImageError) → from_of image ≡ from_of begun → half_bytes_of image ≡ half_bytes_of begun
+      → ((left : Rows) → IsTrue modelled → IsLeft key_of file cursor left → TellsFull {T = T} (Err e) (end_of_half image) (next_of begun + 8192 * length (laid (held.rows ++ without_keys left))))
       → (result : Result S ImageError) → result ≡ Err e
       → (pages : List (List (List ℕ))) → IsTrue modelled → IsStored key_of table.places pages first → LieApart table.places begun
       → TellsFull result (end_of_half begun) (next_of begun + 8192 * length (laid (without_keys (rows_of_table key_of table pages))))
-  full_before e row next from half gives tells result is_err pages honest is apart =
+  no_room_for T e from half tells result is_err pages honest is apart =
       let so = held.given pages honest is apart in
-      let goes = gives so.left honest so.is in
-      told_all e result (held.rows ++ row ∷ without_keys goes.more) (without_keys (rows_of_table key_of table pages)) is_err from half
-      (ap (λ (l : Rows). held.rows ++ without_keys l) (sym goes.same) ∙ so.same)
-      (tells (without_keys goes.more))
+      told_of T e result (end_of_half begun) (next_of begun) (held.rows ++ without_keys so.left) (without_keys (rows_of_table key_of table pages)) is_err so.same
+      (subst (λ n. TellsFull {T = T} (Err e) n (next_of begun + 8192 * length (laid (held.rows ++ without_keys so.left)))) (ap₂ (λ a b. a + b) from half) (tells so.left honest so.is))
 
-  -- where all rows are short, one that was given is
-  pub short_row : (row : List ℕ) (next : RowCursor) → ((left : Rows) → IsTrue modelled → IsLeft key_of file cursor left → GoesOn key_of file left row next)
-      → (pages : List (List (List ℕ))) → IsTrue modelled → IsStored key_of table.places pages first → LieApart table.places begun → AllByRecursion IsShort (without_keys (rows_of_table key_of table pages)) → IsShort row
-  short_row row next gives pages honest is apart short =
+  -- where all rows are short, those that are left are
+  pub left_short : (pages : List (List (List ℕ))) (honest : IsTrue modelled) (is : IsStored key_of table.places pages first) (apart : LieApart table.places begun) → AllByRecursion IsShort (without_keys (rows_of_table key_of table pages))
+      → AllByRecursion IsShort (without_keys (held.given pages honest is apart).left)
+  left_short pages honest is apart short =
       let so = held.given pages honest is apart in
-      let goes = gives so.left honest so.is in
-      let all = subst (λ (l : List (List ℕ)). AllByRecursion IsShort l) (sym so.same) short in
-      (subst (λ (l : Rows). AllByRecursion IsShort (without_keys l)) goes.same (all_behind IsShort held.rows (without_keys so.left) all)).0
+      all_behind IsShort held.rows (without_keys so.left) (subst (λ (l : List (List ℕ)). AllByRecursion IsShort l) (sym so.same) short)
 
   -- ---- at the end
 
@@ -163,12 +154,13 @@ module _ (modelled : Bool) (key_of : List ℕ → List ℕ) (table : Table) (fir
       let so = held.given pages honest is apart in
       sym (append-nil held.rows) ∙ ap (λ (l : Rows). held.rows ++ without_keys l) (sym (none so.left honest so.is)) ∙ so.same
 
-  pub full_last : {S : Type 0} (e : ImageError) → from_of image ≡ from_of begun → half_bytes_of image ≡ half_bytes_of begun → ((left : Rows) → IsTrue modelled → IsLeft key_of file cursor left → left ≡ [])
-      → TellsFull {T = Unit {0}} (Err e) (end_of_half image) (next_of begun + 8192 * length (laid held.rows)) → (result : Result S ImageError) → result ≡ Err e
+  pub full_last : (T : Type 0) {S : Type 0} (e : ImageError) (end : ℕ) → end ≡ end_of_half begun → ((left : Rows) → IsTrue modelled → IsLeft key_of file cursor left → left ≡ [])
+      → TellsFull {T = T} (Err e) end (next_of begun + 8192 * length (laid held.rows)) → (result : Result S ImageError) → result ≡ Err e
       → (pages : List (List (List ℕ))) → IsTrue modelled → IsStored key_of table.places pages first → LieApart table.places begun
       → TellsFull result (end_of_half begun) (next_of begun + 8192 * length (laid (without_keys (rows_of_table key_of table pages))))
-  full_last e from half none tells result is_err pages honest is apart =
-      told_all e result held.rows (without_keys (rows_of_table key_of table pages)) is_err from half (all_given none pages honest is apart) tells
+  full_last T e end is_end none tells result is_err pages honest is apart =
+      told_of T e result (end_of_half begun) (next_of begun) held.rows (without_keys (rows_of_table key_of table pages)) is_err (all_given none pages honest is apart)
+      (subst (λ n. TellsFull {T = T} (Err e) n (next_of begun + 8192 * length (laid held.rows))) is_end tells)
 
 -- ---- the table that was written
 

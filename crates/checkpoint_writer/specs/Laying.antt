@@ -1,8 +1,8 @@
 -- Rows that are laid into the pages of an image.
-use Rattle.std.specs.Prelude.{◌≡◌, ℕ, ◌+◌, ◌*◌, Bool, true, false, IsTrue, List, [], ◌∷◌, ◌++◌, length}
+use Rattle.std.specs.Prelude.{◌≡◌, ◌⊎◌, ℕ, ◌+◌, ◌*◌, Bool, true, false, IsTrue, List, [], ◌∷◌, ◌++◌, length}
 use Rattle.std.specs.List.{AllByRecursion}
 use Rattle.drda_words.specs.Place.{part}
-use Rattle.row_pages.specs.Page.{IsPage}
+use Rattle.row_pages.specs.Page.{Fits, IsPage}
 use Rattle.row_pages.specs.Laying.{IsShort, laid, laid_behind}
 use Rattle.row_pages.specs.declared.page.PageKind.{PageKind}
 use Rattle.half_store.specs.Writing.{next_of}
@@ -27,6 +27,11 @@ pub record IsLaying (modelled : Bool) (file : List ℕ) (start : ℕ) (image : I
   pub same : (rest : List (List ℕ)) → laid (rows ++ rest) ≡ full ++ laid_behind writer.page.rows rest
   pub empty : writer.is_empty ≡ has_none writer.page.rows
   pub short : AllByRecursion IsShort rows
+
+-- rows that are laid behind those of the page that is being filled begin a page: it has none, or no room for the first
+abbrev pub BeginsPage : RowWriter → List (List ℕ) → Type 0
+BeginsPage writer [] = ⊥
+BeginsPage writer (row ∷ rows) = (writer.is_empty ≡ true) ⊎ (Fits (writer.page.rows ++ row ∷ []) → ⊥)
 
 -- a key more, where there is one
 abbrev pub key_if : Bool → List ℕ → List (List ℕ)

@@ -6,3 +6,4 @@ pub mod Catalogue
 pub mod ReadCatalogue
 pub mod Writing
 pub mod Moment
+pub mod Steps

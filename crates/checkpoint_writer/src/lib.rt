@@ -10,6 +10,7 @@ mod merging;
 mod page;
 mod reading;
 mod rows;
+mod steps;
 
 pub use catalogue::{count_entry, write_catalogue};
 pub use ending::{Switched, finish_image};

@@ -11,10 +11,11 @@ ghost use Rattle.checkpoint_writer.specs.Stored.{LieApart, HaveKeys, IsImageOf};
 
 use crate::ImageError;
 use crate::rows::RowWriter;
+use crate::steps::Merging;
 use drda_disk::Disk;
 use half_store::ImageWriter;
 use key_map::laws::changes_win;
-use row_pages::{PageKind, one_laying};
+use row_pages::{KeptPage, PageKind, one_laying};
 use std::alloc::{AllocError, Global};
 use table_map::{NotedPages, NotedRows, RowKeys, TableMap, TablePages};
 
@@ -40,6 +41,8 @@ fn push_key(keys: &mut Vec<Vec<u8>>, key: Vec<u8>) -> Result<(), AllocError>
 
 impl TableWriter {
     ghost use Rattle.key_map.specs.Merging.{Rows};
+    ghost use Rattle.table_map.specs.Whole.{TakesMore};
+    ghost use Rattle.checkpoint_writer.specs.Laying.{BeginsPage};
     ghost use Rattle.checkpoint_writer.specs.Writing.{HasLaid, HasLaidAt};
 
     /// No rows yet.
@@ -55,7 +58,7 @@ impl TableWriter {
     }
 
     /// Lays a row behind the others. One that is too long for a page is damaged.
-    fn add<K: RowKeys, D: Disk>(
+    pub(crate) fn add<K: RowKeys, D: Disk>(
         &mut self,
         alloc: Global,
         keys: &K,
@@ -78,6 +81,39 @@ impl TableWriter {
         if self.rows.add(alloc, disk, image, row)? {
             push_key(&mut self.first_keys, keys.key(alloc, row)?)?;
         }
+        Ok(())
+    }
+
+    /// The bytes that a row may take, with two for its length, to stand in the page that is being filled; none
+    /// where that has no rows.
+    pub(crate) fn room(&self) -> usize
+        ensures { (rows : List (List ℕ)) → TakesMore result rows → BeginsPage self.now.rows rows }
+    {
+        self.rows.room()
+    }
+
+    /// Lays the rows of a page behind the others, where they begin a page, and keeps the key of the first.
+    pub(crate) fn add_page<K: RowKeys, D: Disk>(
+        &mut self,
+        alloc: Global,
+        keys: &K,
+        disk: &mut D,
+        image: &mut ImageWriter,
+        page: KeptPage,
+    ) -> Result<(), ImageError>
+        requires begins { BeginsPage self.old.rows page.rows }
+        requires inside { from_of image.old + half_bytes_of image.old ≤ length (D.life disk.old).seen }
+        ensures adds { AddsPages D.is_modelled (D.life disk.old) (D.life disk.new) image.old image.new }
+        ensures laid { (start : ℕ) (rows : List (List ℕ)) → HasLaid D.is_modelled (K.key_of keys.now) (D.life disk.old).seen start image.old self.old rows
+            → OnOk result (HasLaid D.is_modelled (K.key_of keys.now) (D.life disk.new).seen start image.new self.new (rows ++ page.rows)) }
+        ensures full { (start : ℕ) (rows rest : List (List ℕ)) → HasLaid D.is_modelled (K.key_of keys.now) (D.life disk.old).seen start image.old self.old rows
+            → TellsFull result (end_of_half image.old) (start + 8192 * length (laid (rows ++ (page.rows ++ rest)))) }
+        ensures damaged { DamagedWhere ⊥ result }
+        ensures cause { CountsImage result (D.life disk.old).faults (D.life disk.new).faults }
+    {
+        let key = keys.key(alloc, page.row(0))?;
+        self.rows.add_page(disk, image, page)?;
+        push_key(&mut self.first_keys, key)?;
         Ok(())
     }
 
@@ -110,8 +146,8 @@ impl TableWriter {
 }
 
 /// Writes all rows of a table, in the order of their keys, into pages behind those that the image has,
-/// so that a page ends only where the next row does not fit. No rows take no page. Where the pages
-/// lie then is returned, with the key of each one's first row, and the rows are noted beside it.
+/// so that a page ends only where the next row does not fit. A page of which no row has changed is copied
+/// whole, where its first row begins a page. No rows take no page. Where the pages lie then is returned, with the key of each one's first row, and the rows are noted beside it.
 ///
 /// `Full` is told only where the half has no room for all of the pages and a gate behind them. Of a
 /// table whose pages stand there `Damaged` is told only where one of all rows is too long for a page;
@@ -144,13 +180,17 @@ pub fn merge_into<K: RowKeys, D: Disk>(
     one_laying();
     changes_win();
     let at = image.finish_pages().at;
-    let mut cursor = table.rows();
-    let mut writer = TableWriter::new(alloc)?;
-    let mut noted = NotedRows::none();
-    while let Some(row) = cursor.next(alloc, keys, disk)? {
-        writer.add(alloc, keys, disk, image, row)?;
-        noted.note(row);
-    }
+    let mut merging = Merging {
+        cursor: table.rows(),
+        writer: TableWriter::new(alloc)?,
+        noted: NotedRows::none(),
+    };
+    while merging.step(alloc, keys, disk, image)? {}
+    let Merging {
+        cursor: _,
+        writer,
+        noted,
+    } = merging;
     let TableWriter { rows, first_keys } = writer;
     rows.finish(disk, image)?;
     Ok(NotedPages {

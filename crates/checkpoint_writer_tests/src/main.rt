@@ -10,7 +10,7 @@ mod stores;
 mod written;
 
 use crate::endings::tell_switched;
-use crate::written::tell_written;
+use crate::written::{tell_copied, tell_written};
 use std::alloc::{AllocError, Global};
 use std::io::{self, Write};
 
@@ -31,6 +31,7 @@ fn follow(alloc: Global, text: &str, out: &mut String) -> Result<(), AllocError>
         let done = match verb {
             "#" => Ok(()),
             "switch" => tell_switched(alloc, asked, out),
+            "copied" => tell_copied(alloc, asked, out),
             _ => tell_written(alloc, verb, asked, out),
         };
         done?;

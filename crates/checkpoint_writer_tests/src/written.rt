@@ -7,7 +7,7 @@ use crate::keys::FirstByte;
 use crate::pages::{rows_of, table_with, tell_rows};
 use crate::stores::{Run, STORE_BYTES, new_store, number};
 use checkpoint_writer::{ImageError, merge_into, write_rows};
-use drda_disk::Disk;
+use drda_disk::{Disk, ReadFault, read_bytes};
 use half_store::{Active, ImageWriter, begin_image};
 use row_pages::{PageCache, Pager};
 use std::alloc::{AllocError, Global};
@@ -113,4 +113,62 @@ pub fn tell_written(
         active.half = active.half.other();
     }
     done
+}
+
+// The bytes of pages, where the disk has them.
+fn bytes_of<D: Disk>(alloc: Global, disk: &mut D, run: Run) -> Result<Option<Vec<u8>>, AllocError> {
+    if run.pages > 200 || run.at > STORE_BYTES || run.at + 8_192 * run.pages > disk.size() {
+        return Ok(None);
+    }
+    match read_bytes(alloc, disk, run.at, 8_192 * run.pages) {
+        Ok(bytes) => Ok(Some(bytes)),
+        Err(ReadFault::NoMemory) => Err(AllocError),
+        Err(_) => Ok(None),
+    }
+}
+
+// Tells whether pages have the bytes of others.
+fn tell_same<D: Disk>(
+    alloc: Global,
+    disk: &mut D,
+    first: Run,
+    second: Run,
+    out: &mut String,
+) -> Result<(), AllocError> {
+    let pages = second.pages;
+    let one = bytes_of(alloc, disk, first)?;
+    let other = bytes_of(alloc, disk, second)?;
+    if are_same(&one, &other) {
+        writeln!(out, "  {pages} pages of the same bytes")
+    } else {
+        writeln!(out, "  {pages} pages of other bytes")
+    }
+}
+
+// Whether both are there, and the same.
+fn are_same(one: &Option<Vec<u8>>, other: &Option<Vec<u8>>) -> bool {
+    match one {
+        Some(one) => match other {
+            Some(other) => one.as_slice() == other.as_slice(),
+            None => false,
+        },
+        None => false,
+    }
+}
+
+/// Lays rows one by one, and then copies their pages into the other half: tells whether these have the same bytes.
+pub fn tell_copied(alloc: Global, changes: &str, out: &mut String) -> Result<(), AllocError> {
+    let cache = PageCache::new(alloc, 2)?;
+    let (disk, mut active) = new_store(alloc, u64::MAX)?;
+    let mut pager = Pager::over(disk, cache);
+    let none = Run { at: 0, pages: 0 };
+    let laid = match written(alloc, &mut pager, &active, none, ("memory", changes)) {
+        Ok(run) => run,
+        Err(fault) => return writeln!(out, "  {fault:?}"),
+    };
+    active.half = active.half.other();
+    match written(alloc, &mut pager, &active, laid, ("merge", "")) {
+        Ok(copied) => tell_same(alloc, &mut pager, laid, copied, out),
+        Err(fault) => writeln!(out, "  {fault:?}"),
+    }
 }

@@ -3,7 +3,8 @@
 ghost use Rattle.std.specs.Prelude.{◌≡◌};
 ghost use Rattle.conversation.specs.Access as spec;
 
-use drda_commands::{Accepted, Command, Refusal, Stage};
+use drda_commands::Stage;
+use session_commands::AtOnce;
 
 /// How far a conversation has come towards the database.
 #[derive(Clone, Copy)]
@@ -36,15 +37,10 @@ pub(crate) fn is_opened(stage: Stage) -> bool
     }
 }
 
-/// Whether a command of which the judge says this asks for a check of the user.
-pub(crate) fn asks_check(verdict: &Result<Accepted<'_>, Refusal>) -> bool {
-    match verdict {
-        Ok(accepted) => matches!(accepted.command, Command::Secchk),
-        Err(_) => false,
+/// How many checks have failed, behind what left this stage. One whose answer found no memory counts as failed.
+pub(crate) fn refused_behind(refused: u64, what: AtOnce, stage: Stage) -> u64 {
+    match what {
+        AtOnce::Secchk => refused.saturating_add(u64::from(!is_checked(stage))),
+        _ => refused,
     }
-}
-
-/// How many checks have failed, behind a command that asked for one or not and left this stage.
-pub(crate) fn refused_behind(refused: u64, asked: bool, stage: Stage) -> u64 {
-    refused.saturating_add(u64::from(asked && !is_checked(stage)))
 }

@@ -12,7 +12,7 @@ ghost use Rattle.session_commands.specs.Views.{answer_of};
 ghost use Rattle.conversation.specs.Exchange as spec;
 ghost use Rattle.conversation.specs.Views.{standing_of, verdict_of, Appends, ComesTo};
 
-use crate::access::{asks_check, refused_behind};
+use crate::access::refused_behind;
 use crate::chain::{Link, append_replies, behind, last_format, link_of, worst};
 use crate::database::do_on_database;
 use crate::sizes::most_length;
@@ -182,7 +182,11 @@ fn tell(
 {
     let dss = open_dss(out)?;
     match answered_at_once(settings, state.session, what, given, out) {
-        Ok(answer) => send_one(state, answer, link, dss, out),
+        Ok(answer) => {
+            let told = send_one(state, answer, link, dss, out);
+            state.refused = refused_behind(state.refused, what, state.session.stage);
+            told
+        }
         Err(error) => {
             out.truncate(dss.at);
             Err(error)
@@ -239,12 +243,8 @@ pub(crate) fn do_command<A: Ask>(
     }
     let unicode = session.agreed.unicode;
     let verdict = judge(session.stage, unicode, request.contents, objects);
-    let asks = asks_check(&verdict);
     match answer(alloc, settings, state, verdict, link, asker, out) {
-        Ok(()) => {
-            state.refused = refused_behind(state.refused, asks, state.session.stage);
-            Exchanged::Done
-        }
+        Ok(()) => Exchanged::Done,
         Err(AllocError) => {
             state.session = behind(session, link, 8);
             let is_chained = link.is_chained && !state.session.is_broken;

@@ -14,7 +14,7 @@ use Rattle.core_history.specs.declared.wish.Wish.{Wish}
 use Rattle.core_history.specs.LeftAnswers.{AreLeft, FailuresAreTrue}
 use Rattle.core_history.specs.Books.{AreCounted, AreRecorded, IsKept, Told}
 use Rattle.core_history.specs.declared.pass.Pass.{Pass}
-use Rattle.core_history.specs.Passes.{FindsNoMemory, IsAnswered, Knows}
+use Rattle.core_history.specs.Passes.{FindsNoMemory, IsAnswered, Knows, Rests}
 use Rattle.core_history.proofs.Counting.{length_replicate, none_yet, set_length}
 use Rattle.core_history.specs.Gathered.{MakesTogether, all_listed}
 use Rattle.core_history.proofs.Leading.{finds_no_memory, leads_on, lost_wants_none}
@@ -100,6 +100,21 @@ module _ {D : Type 0} (modelled : Bool) (life : D → Life) where
     are_left = kept.are_left;
     as_many = kept.as_many;
     failures = true_after old.is_failed new.is_failed left (λ e. same.is_failed ∙ e) kept.failures;
+  }
+
+  pub rests_on : (old opening new : OnDisk D) (calls : List AnsweredCall) (places : List (Option Count)) (left : List (Option Left)) (next : ℕ)
+      → CallsGoOn life
+      → IsKept modelled life (book_of old opening calls places left next) → Rests old new → Journaled modelled (shown_on life old) (shown_on life new)
+      → IsKept modelled life (book_of new opening calls places left next)
+  rests_on old opening new calls places left next on_disk kept rests journaled = record {
+    leads = λ told. subst (λ (s : CoreState). CallsLead opening.state calls s) (sym rests.state) (kept.leads told);
+    recorded = λ told. recorded_still opening old new calls rests.made (kept.recorded told);
+    journaled = on_disk.both modelled opening old new kept.journaled journaled;
+    counted = kept.counted;
+    sixty_four = kept.sixty_four;
+    are_left = kept.are_left;
+    as_many = kept.as_many;
+    failures = true_after old.is_failed new.is_failed left rests.failed kept.failures;
   }
 
   pub gathers_on : CallsLeadOn → (old opening new : OnDisk D) (calls more : List AnsweredCall) (places set : List (Option Count)) (left over : List (Option Left)) (next : ℕ) (members : List Wish) (f : Bool)

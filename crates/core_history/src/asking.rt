@@ -8,13 +8,13 @@ ghost use Rattle.recovery.specs.Journaled.{IsUnchanged, Journaled, shown_on};
 ghost use Rattle.core_history.specs.Gathered.{MakesTogether};
 ghost use Rattle.unit_records.specs.Together.{call_for};
 ghost use Rattle.serializability.specs.Belonging.{is_excuse};
-ghost use Rattle.core_history.specs.Passes.{IsAnswered};
+ghost use Rattle.core_history.specs.Passes.{IsAnswered, Rests};
 
 use crate::chosen::{Chosen, list_calls};
 use crate::renewals::Renewals;
 use crate::wish::Wish;
 use core_calls::{Answer, CoreCall};
-use drda_disk::Disk;
+use drda_disk::{Disk, Flusher};
 use durable_core::{DurableCore, Together};
 use recovery::images::calls_go_on;
 use serializability::answers::answers_belong_to_calls;
@@ -69,6 +69,19 @@ fn make_together<D: Disk>(
         return None;
     }
     has_failed(core.make_together(calls))
+}
+
+/// What was chosen is laid ahead of being made together: what flushes the disk, where it lies there then.
+pub(crate) fn lay_ahead<D: Disk>(core: &mut DurableCore<D>, chosen: &mut Chosen) -> Option<Flusher>
+    ensures rests { Rests core.old core.new }
+    ensures journaled { Journaled D.is_modelled (shown_on D.life core.old) (shown_on D.life core.new) }
+{
+    calls_go_on::<D>();
+    core.is_durable();
+    if !list_calls(&chosen.members, &mut chosen.calls) {
+        return None;
+    }
+    core.lay_ahead(&chosen.calls)
 }
 
 // Whether the device failed at calls that were made together; None where they were not made.

@@ -29,7 +29,7 @@ impl Chosen {
     }
 
     /// Chooses those of the wishes whose conversations are counted as they say, at each place one, and whose calls the core
-    /// would do alone, with a record. False where they are fewer than two, or memory is refused.
+    /// would do alone, with a record. False where there is none, or memory is refused.
     pub(crate) fn choose<D: Disk>(
         &mut self,
         core: &DurableCore<D>,
@@ -46,7 +46,7 @@ impl Chosen {
                 return false;
             }
         }
-        self.members.len() > 1
+        !self.members.is_empty()
     }
 
     // Chooses one wish more, where its conversation is counted as it says, its place is not chosen yet, there are not 64, and

@@ -18,8 +18,8 @@ impl<D: Disk> Book<D> {
     /// another. Each conversation has made one call more then, and its answer is left at its place, to be collected.
     /// Where the device fails at it, that is the answer of each.
     ///
-    /// Nothing is done where there are fewer than two of them, where they do not go together, where there is no memory
-    /// or no room for all, or where the device had failed before: then each makes its call alone.
+    /// Nothing is done where there is none of them, where they do not go together, where there is no memory or no room for
+    /// all, or where the device had failed before: then each makes its call alone. One alone is a group too.
     pub fn make_together(&mut self, wishes: &[Wish])
         ensures gathers { GathersNone D.life self.old self.new ⊎ Gathers D.life self.old wishes.now self.new }
         ensures journaled { Journaled D.is_modelled (shown_on D.life self.old.core) (shown_on D.life self.new.core) }

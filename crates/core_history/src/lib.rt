@@ -3,6 +3,7 @@
 
 mod acted;
 mod acting;
+mod ahead;
 mod asking;
 mod book;
 mod calls;

@@ -57,29 +57,15 @@ impl Recorder for Room {
         Ok(())
     }
 
-    ghost allows_lay = { λ _ _. Unit {0} };
+    ghost lays_ahead = { λ _ _. Unit {0} };
 
-    ghost lays = { λ _ _ _. Unit {0} };
+    ghost fails_ahead = { λ _ _. Unit {0} };
 
-    ghost fails_to_lay = { λ _ _ _. Unit {0} };
-
-    fn lay_all(&mut self, _sayings: &[RecordContents<'_>]) -> Result<(), GroupError> {
-        Err(GroupError::Refused)
+    fn lay_ahead(&mut self, _sayings: &[RecordContents<'_>]) -> Result<bool, DeviceFailed> {
+        Ok(false)
     }
 
-    ghost allows_open = { λ _. Unit {0} };
-
-    ghost opens = { λ _ _. Unit {0} };
-
-    ghost fails_to_open = { λ _ _. Unit {0} };
-
-    fn open_laid(&mut self) -> Result<(), DeviceFailed> {
-        Ok(())
-    }
-
-    ghost drops = { λ _ _. Unit {0} };
-
-    fn drop_laid(&mut self) {}
+    ghost lays_none = { λ _. tt };
 }
 
 // Whether each of them is made where a commit may have so many changes.

@@ -68,8 +68,8 @@ fn kind_of(word: &str) -> Kind {
     }
 }
 
-// The record of this kind with this body.
-fn laid_record(alloc: Global, kind: &str, body: &str) -> Result<LaidRecord, AllocError> {
+/// The record of this kind with this body.
+pub fn laid_record(alloc: Global, kind: &str, body: &str) -> Result<LaidRecord, AllocError> {
     let body = bytes_of(alloc, &[body])?;
     if body.len() >= 1 << 32 {
         return Err(AllocError);

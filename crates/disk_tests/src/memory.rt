@@ -4,14 +4,14 @@ use crate::calls::{
     change, image, number_in, numbers_in, tell, tell_both, tell_call, tell_is, tell_text,
 };
 use crate::journals::{add, count, open, settle, tell_begun, tell_record};
-use crate::staged::{go_on, put};
+use crate::staged::{go_on, lay_ahead, put};
 use drda_disk::{Disk, FuseDisk, MemDisk, Region};
 use std::alloc::{AllocError, Global};
 use std::mem;
 use test_bytes::bytes_of;
 use unit_journal::{AppendError, Journal, Record, Staged};
 
-/// A disk in memory behind a fuse, the region of a journal on it, the journal, if one is open, by itself or with groups on their way, and the
+/// A disk in memory behind a fuse, the region of a journal on it, the journal, if one is open, by itself or with a group laid ahead, and the
 /// records that were found last.
 #[derive(Drop)]
 pub struct Memory {
@@ -203,7 +203,7 @@ impl Memory {
         tell(out, &told)
     }
 
-    // The journal with no group on its way.
+    // The journal with nothing laid behind it.
     fn stage(&mut self) -> Result<(), AllocError> {
         self.staged = match self.journal.take() {
             Some(journal) => Some(Staged::at_rest(journal)),
@@ -212,7 +212,19 @@ impl Memory {
         Ok(())
     }
 
-    // Lays a group, or adds it at once. A journal whose device failed is not used again.
+    // Lays a group ahead. A journal whose device failed is not used again.
+    fn lay_ahead(&mut self, asked: &str, out: &mut String) -> Result<(), AllocError> {
+        let Some(staged) = &mut self.staged else {
+            return tell_text(out, "no journal");
+        };
+        let told = lay_ahead(self.alloc, staged, &mut self.disk, numbers_in(asked))?;
+        if told.is_err() {
+            self.staged = None;
+        }
+        tell(out, &told)
+    }
+
+    // Adds a group, or a record alone.
     fn put(&mut self, verb: &str, asked: &str, out: &mut String) -> Result<(), AllocError> {
         let Some(staged) = &mut self.staged else {
             return tell_text(out, "no journal");
@@ -224,7 +236,7 @@ impl Memory {
         tell(out, &told)
     }
 
-    // Opens a gate, settles, or gives up what was laid.
+    // Settles, or comes to rest.
     fn go_on(&mut self, verb: &str, out: &mut String) -> Result<(), AllocError> {
         let Some(staged) = &mut self.staged else {
             return tell_text(out, "no journal");
@@ -236,15 +248,14 @@ impl Memory {
         tell(out, &told)
     }
 
-    // What is on its way, and what is left.
-    fn tell_stages(&self, out: &mut String) -> Result<(), AllocError> {
+    // What is left, whatever was laid ahead.
+    fn tell_staged(&self, out: &mut String) -> Result<(), AllocError> {
         let Some(staged) = &self.staged else {
             return tell_text(out, "no journal");
         };
-        tell_both(out, ("gated", staged.gated()), ("laid", staged.laid()))?;
         tell_both(
             out,
-            ("room", staged.room()),
+            ("room", staged.journal().room()),
             ("held", staged.journal().held()),
         )
     }
@@ -292,9 +303,9 @@ impl Memory {
     }
 
     // `journal` begins one in a region; `start`, `lay`, `open` and others concern it. `found` tells how many records a crash leaves of a copy,
-    // and `with` how many are there with another byte. `stage` takes groups through it: `laid` lays one of so many records, with the bytes that
-    // are held back and released behind their number, and `whole` adds one at once; `gate`, `settle` and `drop` go on. All else is a call of the
-    // disk.
+    // and `with` how many are there with another byte. `stage` lets groups be laid ahead: `ahead` lays one of so many records, with the bytes
+    // that are held back and released behind their number; `whole` adds one and `alone` a record; `settle` and `rest` go on, and `staged` tells
+    // what is left. All else is a call of the disk.
     fn answer_of_journal(
         &mut self,
         verb: &str,
@@ -313,9 +324,10 @@ impl Memory {
             "begun" => tell_begun(self.alloc, out),
             "record" => tell_record(self.alloc, rest, out),
             "stage" => self.stage(),
-            "laid" | "whole" => self.put(verb, rest, out),
-            "gate" | "settle" | "drop" => self.go_on(verb, out),
-            "stages" => self.tell_stages(out),
+            "ahead" => self.lay_ahead(rest, out),
+            "whole" | "alone" => self.put(verb, rest, out),
+            "settle" | "rest" => self.go_on(verb, out),
+            "staged" => self.tell_staged(out),
             _ => tell_call(self.alloc, &mut self.disk, verb, rest, out),
         }
     }

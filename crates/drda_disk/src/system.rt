@@ -5,8 +5,8 @@ ghost use Rattle.drda_disk.specs.File.{unknown, no_image};
 
 use crate::{FileFault, FilePlace, Flushed, Flusher, PositionalFile};
 use std::alloc::Global;
-use std::fs::{File, OpenOptions, TryLockError};
-use std::os::unix::fs::FileExt;
+use std::fs::{File, Metadata, OpenOptions, TryLockError};
+use std::os::unix::fs::{FileExt, MetadataExt};
 use std::path::Path;
 use std::rt::Files;
 use std::sync::Arc;
@@ -88,11 +88,25 @@ impl PositionalFile for SystemFile {
     }
 }
 
-// Another opening of the file at a path, where it and memory for it can be had. It is one of its own, and no copy of the
-// first one's descriptor, since a fault of the device is told to each opening once.
-fn open_again<R: Files<File = File>>(alloc: Global, rt: &R, path: &str) -> Option<Arc<File>> {
+// Another opening of the file that was opened at a path, where it and memory for it can be had. It is one of its own, and
+// no copy of the first one's descriptor, since a fault of the device is told to each opening once. None where another file
+// stands there by now.
+fn open_again<R: Files<File = File>>(
+    alloc: Global,
+    rt: &R,
+    path: &str,
+    first: &File,
+) -> Option<Arc<File>> {
     let file = OpenOptions::new().write(true).open(rt, path).ok()?;
+    if !are_same(&first.metadata().ok()?, &file.metadata().ok()?) {
+        return None;
+    }
     Arc::new(alloc, file).ok()
+}
+
+// Whether both are of one file: by its device and its number there.
+fn are_same(one: &Metadata, other: &Metadata) -> bool {
+    one.dev() == other.dev() && one.ino() == other.ino()
 }
 
 /// A path of the system.
@@ -119,9 +133,10 @@ impl<'a, R: Files<File = File>> FilePlace for FilePath<'a, R> {
 
     fn create(&mut self) -> io::Result<SystemFile> {
         let file = File::create_new(self.rt, self.path)?;
+        let flushed = open_again(self.alloc, self.rt, self.path, &file);
         Ok(SystemFile {
             file,
-            flushed: open_again(self.alloc, self.rt, self.path),
+            flushed,
             writes: 0,
             len: 0,
         })
@@ -133,9 +148,10 @@ impl<'a, R: Files<File = File>> FilePlace for FilePath<'a, R> {
             .write(true)
             .open(self.rt, self.path)?;
         let len = file.metadata()?.len() as usize;
+        let flushed = open_again(self.alloc, self.rt, self.path, &file);
         Ok(SystemFile {
             file,
-            flushed: open_again(self.alloc, self.rt, self.path),
+            flushed,
             writes: 0,
             len,
         })

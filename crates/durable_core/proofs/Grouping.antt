@@ -29,7 +29,7 @@ use Rattle.recovery.specs.Journaled.{CallsGoOn, IsDurable, Journaled, Made, OneC
 use Rattle.journal_recorder.specs.Recording.{AllowsAll, AreLeftOpen, RecordsAll, disk_of, has_failed, journal_of, layout_of, made_of}
 use Rattle.journal_recorder.specs.declared.recorder.DiskRecorder.{DiskRecorder}
 use Rattle.durable_core.specs.Recorded.{IsOnDisk, IsRecorded, core_on}
-use Rattle.durable_core.proofs.Recording.{done_in, durable_from, no_faults, one_fault}
+use Rattle.durable_core.proofs.Recording.{done_in, durable_from, no_faults, one_fault, there_left, there_stand}
 
 -- the laws that it rests on
 pub record GroupLaws {D : Type 0} (life : D → Life) : Type 0 where
@@ -81,7 +81,6 @@ module _ {D : Type 0} (modelled : Bool) (life : D → Life) (name : List ℕ) (a
     pub allowed : AllowsAll modelled life r said
     allowed = record {
       going = going;
-      rest = is.rest;
       inside = is.inside;
       released_is_held = subst (λ (n : ℕ). free ≤ n) (sym is.held) (all.of_doubts (layout_of r) s cs is.kept may).0;
     }
@@ -106,7 +105,7 @@ module _ {D : Type 0} (modelled : Bool) (life : D → Life) (name : List ℕ) (a
       on_disk modelled_disk =
           let there = is.on_disk modelled_disk going in
           let settled = made.settled there.entries there.settled in
-          let here = subst (λ (g : Region). Stands g (there.entries ++ map entry_of said) (life (disk_of after)).seen) made.region settled.stands in
+          let here = subst (λ (g : Region). Stands g (there.entries ++ map entry_of said) (life (disk_of after)).seen) made.region (there_stand modelled life after (there.entries ++ map entry_of said) settled) in
           record {
             entries = there.entries ++ map entry_of said;
             settled = settled;
@@ -120,7 +119,7 @@ module _ {D : Type 0} (modelled : Bool) (life : D → Life) (name : List ℕ) (a
       durable_after : IsTrue modelled → IsDurable (shown_on life (core_on name behind after))
       durable_after modelled_disk =
           let here = on_disk modelled_disk in
-          all.calls.durable (core_on name behind after) (layout_of after) (region_of (journal_of after)) here.entries here.settled.durable here.holds here.none_begun
+          all.calls.durable (core_on name behind after) (layout_of after) (region_of (journal_of after)) here.entries here.holds (there_left modelled life after here.entries here.settled) here.none_begun
 
       group_made : IsTrue modelled → Made (said ∷ []) [] (shown_on life (core_on name s r)) (shown_on life (core_on name behind after))
       group_made modelled_disk =
@@ -132,7 +131,6 @@ module _ {D : Type 0} (modelled : Bool) (life : D → Life) (name : List ℕ) (a
       done_left = record {
         recorded = record {
           kept = all.keep s cs is.kept;
-          rest = made.rest;
           held = (let sum : held_of (journal_of after) ≡ held_for (layout_of r) (durable_part behind).doubts = omega (arith, made.held, holds_for, is.held) in sum) ∙ ap (λ (l : Layout). held_for l (durable_part behind).doubts) (sym made.layout);
           inside = subst (λ (g : Region). end_of g ≤ length (life (disk_of after)).seen) (sym made.region) (subst (λ (n : ℕ). end_of (region_of (journal_of r)) ≤ n) (sym made.others.size) is.inside);
           on_disk = λ modelled_disk still. on_disk modelled_disk;
@@ -160,7 +158,6 @@ module _ {D : Type 0} (modelled : Bool) (life : D → Life) (name : List ℕ) (a
       open_left = record {
         recorded = record {
           kept = is.kept;
-          rest = left.rest;
           held = ap (λ (j : Journal). held_of j) left.journal ∙ is.held ∙ ap (λ (l : Layout). held_for l (durable_part s).doubts) (sym left.layout);
           inside = subst (λ (j : Journal). end_of (region_of j) ≤ length (life (disk_of after)).seen) (sym left.journal) (subst (λ (n : ℕ). end_of (region_of (journal_of r)) ≤ n) (sym left.others.size) is.inside);
           on_disk = λ modelled_disk still. absurd (false≢true (sym still ∙ left.failed));

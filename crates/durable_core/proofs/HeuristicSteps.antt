@@ -50,7 +50,6 @@ module _ {D : Type 0} (modelled : Bool) (life : D → Life) (name : List ℕ) (a
   pub allowed : Allows modelled life r said
   allowed = record {
     going = going;
-    rest = is.rest;
     inside = is.inside;
     released_is_held = subst (λ (n : ℕ). released (layout_of r) said ≤ n) (sym is.held)
         (subst (λ (l : Layout). released l said ≤ held_for l (durable_part s).doubts) (sym layout) (all.of_doubts s xid d is.kept waits).0);

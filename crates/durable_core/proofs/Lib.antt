@@ -16,3 +16,5 @@ pub mod Switching
 pub mod Laid
 pub mod Grouping
 pub mod Gauged
+pub mod LyingAhead
+pub mod Resting

@@ -1,5 +1,5 @@
 -- The pages of a core's tables can be read behind each call, whatever became of who records and reads.
-use Rattle.std.proofs.Common.{◌≡◌, inl, inr, ℕ, Bool, List, Option, Some, None, Result, Ok, Err, IfErr, OnOk, sym, subst}
+use Rattle.std.proofs.Common.{◌≡◌, inl, inr, ℕ, Bool, List, Option, Some, None, Result, Ok, Err, IfErr, OnErr, OnOk, sym, subst}
 use Rattle.drda_disk.specs.Disk.{Life}
 use Rattle.paged_tables.specs.TablesByName.{PagesStay, Tables}
 use Rattle.unit_records.specs.Records.{UnitRecord}
@@ -13,6 +13,7 @@ use Rattle.core_model.specs.Step.{CoreState}
 use Rattle.ahead_view.specs.declared.source.ReadError.{ReadError}
 use Rattle.ahead_view.specs.declared.source.ReadError.TheVariants as read
 use Rattle.ahead_view.specs.Source.{LeavesReader}
+use Rattle.journal_recorder.specs.Ahead.{FailsAhead, LaysAhead}
 use Rattle.journal_recorder.specs.Reading.{FailsToRead, HasPages, PagesAreKept, Reads}
 use Rattle.journal_recorder.specs.Recording.{AreLeftOpen, Fails, Records, RecordsAll}
 use Rattle.journal_recorder.specs.declared.recorder.DiskRecorder.{DiskRecorder}
@@ -55,6 +56,12 @@ module _ {D : Type 0} (modelled : Bool) (life : D → Life) (kept : PagesAreKept
       → HasPages modelled life after t
   together (Ok x) records after ok err = over after (kept.all_recorded r records after s ok has)
   together (Err fault) records after ok err = refused_together records fault after err
+
+  -- ---- what is laid ahead, or settled
+
+  pub ahead : {X Y : Type 0} (result : Result X Y) (after : DiskRecorder D) → OnOk result (LaysAhead modelled life r after) → OnErr result (FailsAhead modelled life r after) → HasPages modelled life after t
+  ahead (Ok x) after ok err = over after (kept.laid_ahead r after s ok has)
+  ahead (Err e) after ok err = over after (kept.not_laid r after s err has)
 
   -- ---- the step
 

@@ -2,17 +2,18 @@
 -- stays recorded.
 use Rattle.std.proofs.Common.{◌≡◌, ◌⊎◌, inl, inr, ℕ, ◌+◌, ◌-◌, ◌≤◌, Bool, true, false, IsTrue, List, [], ◌∷◌, ◌++◌, length, Some, refl, sym, ◌∙◌, ap, subst, arith, append-nil}
 use Rattle.std.proofs.lemmas.Bool.{false≢true}
-use Rattle.drda_disk.specs.Disk.{Life, Stays}
+use Rattle.drda_disk.specs.Disk.{Life, Now, Only, Stays}
 use Rattle.drda_disk.specs.Region.{end_of}
 use Rattle.drda_disk.specs.declared.region.Region.{Region}
-use Rattle.drda_disk.proofs.Moments.{Only-stays, Stays-refl}
+use Rattle.drda_disk.proofs.Moments.{Stays-refl}
 use Rattle.half_store.specs.declared.header.Layout.{Layout}
-use Rattle.unit_journal.specs.Journal.{IsSettled, held_of, region_of, room_of}
+use Rattle.unit_journal.specs.Journal.{held_of, region_of, room_of}
 use Rattle.unit_journal.specs.declared.journal.Journal.{Journal}
 use Rattle.unit_journal.specs.Record.{Entry, laid}
-use Rattle.unit_journal.specs.Staged.{IsAtRest, journal_of as journal_in}
-use Rattle.unit_journal.specs.Stands.{Stands}
+use Rattle.unit_journal.specs.Staged.{IsAtRest, IsUnderWay, journal_of as journal_in}
+use Rattle.unit_journal.specs.Stands.{IsBeforeOrAfterAll, Stands}
 use Rattle.unit_journal.specs.declared.staged.Staged.{Staged}
+use Rattle.unit_journal.proofs.Staging.{IsUnderWay-stays, ends_at_rest}
 use Rattle.unit_records.specs.MadeRecords.{MadeRecords, with_done}
 use Rattle.unit_records.specs.Records.{UnitRecord, entry_of}
 use Rattle.unit_records.specs.Room.{held, released, taken}
@@ -22,7 +23,7 @@ use Rattle.recovery.specs.Laws.{HeldForDoubts, held_for}
 use Rattle.core_model.specs.Step.{CoreState}
 use Rattle.recovery.specs.Part.{durable_part}
 use Rattle.recovery.specs.Kept.{IsKept}
-use Rattle.journal_recorder.specs.Recording.{IsLeftOpen, Records, disk_of, has_failed, journal_of, layout_of, made_of, staged_of}
+use Rattle.journal_recorder.specs.Recording.{AreThere, IsLeftOpen, Records, disk_of, has_failed, journal_of, layout_of, made_of, staged_of}
 use Rattle.journal_recorder.specs.declared.recorder.DiskRecorder.{DiskRecorder}
 use Rattle.recovery.specs.Opens.{Holds}
 use Rattle.recovery.specs.ImageLaws.{RecordsStay}
@@ -60,16 +61,7 @@ nothing_done m = λ i. record { done = sym (append-nil m.done) i; begun = m.begu
 abbrev pub done_in : MadeRecords → List (List Entry)
 done_in m = m.done
 
--- records that are on a disk to stay are so where nothing is written
-settled_still : (modelled : Bool) (old new : Life) (j : Journal) (es : List Entry) → Stays old new → IsSettled modelled old j es → IsSettled modelled new j es
-settled_still modelled old new j es stays settled = record {
-  modelled_disk = settled.modelled_disk;
-  durable = Only-stays old new stays settled.durable;
-  stands = subst (λ (i : List ℕ). Stands (region_of j) es i) (sym stays.same) settled.stands;
-  next = settled.next;
-}
-
--- who records has its journal and what is on its way, its layout and the records that were made, and nothing was written
+-- who records has its journal and what lies ahead, its layout and the records that were made, and nothing was written
 pub record RestsOn {D : Type 0} (life : D → Life) (r after : DiskRecorder D) : Type 0 where
   pub disk : Stays (life (disk_of r)) (life (disk_of after))
   pub staged : staged_of after ≡ staged_of r
@@ -78,6 +70,25 @@ pub record RestsOn {D : Type 0} (life : D → Life) (r after : DiskRecorder D) :
 
 pub same_journal : {D : Type 0} (life : D → Life) (r after : DiskRecorder D) → RestsOn life r after → journal_of after ≡ journal_of r
 same_journal life r after rests = ap (λ (s : Staged). journal_in s) rests.staged
+
+-- records that are there to stay are so where nothing is written
+there_still : {D : Type 0} (modelled : Bool) (life : D → Life) (r after : DiskRecorder D) (es : List Entry) → RestsOn life r after → AreThere modelled life r es → AreThere modelled life after es
+there_still modelled life r after es rests there =
+    subst (λ (s : Staged). IsUnderWay modelled (life (disk_of after)) s es) (sym rests.staged)
+    (IsUnderWay-stays modelled (life (disk_of r)) (life (disk_of after)) (staged_of r) es there rests.disk)
+
+-- they are what is read
+pub there_stand : {D : Type 0} (modelled : Bool) (life : D → Life) (r : DiskRecorder D) (es : List Entry) → AreThere modelled life r es → Stands (region_of (journal_of r)) es (life (disk_of r)).seen
+there_stand modelled life r es there = there.stands
+
+-- where nothing was written since the last sync, a crash leaves what is read
+pub there_only : {D : Type 0} (modelled : Bool) (life : D → Life) (r : DiskRecorder D) → IsAtRest (staged_of r) → (es : List Entry) → AreThere modelled life r es → Only (life (disk_of r))
+there_only modelled life r rest es there = (ends_at_rest modelled (life (disk_of r)) (staged_of r) rest es there).durable
+
+-- and a crash leaves no others
+pub there_left : {D : Type 0} (modelled : Bool) (life : D → Life) (r : DiskRecorder D) (es : List Entry) → AreThere modelled life r es
+    → (c : List ℕ) → Now (life (disk_of r)) c → IsBeforeOrAfterAll (region_of (journal_of r)) (life (disk_of r)).seen es [] c
+there_left modelled life r es there = there.images
 
 -- a core that has failed does nothing
 pub stays_failed : {D : Type 0} (modelled : Bool) (life : D → Life) → OneCallIsMade life → (s : OnDisk D) → s.is_failed ≡ true → Journaled modelled (shown_on life s) (shown_on life s)
@@ -117,7 +128,7 @@ module _ {D : Type 0} (modelled : Bool) (life : D → Life) (name : List ℕ) wh
   pub durable_from : OneCallIsMade life → (s : CoreState) (r : DiskRecorder D) → IsRecorded modelled life name s r → IsTrue modelled → has_failed r ≡ false → IsDurable (shown_on life (core_on name s r))
   durable_from made s r is modelled_disk going =
       let there = is.on_disk modelled_disk going in
-      made.durable (core_on name s r) (layout_of r) (region_of (journal_of r)) there.entries there.settled.durable there.holds there.none_begun
+      made.durable (core_on name s r) (layout_of r) (region_of (journal_of r)) there.entries there.holds (there_left modelled life r there.entries there.settled) there.none_begun
 
   module _ (laws : Laws life) (s : CoreState) (r : DiskRecorder D) (is : IsRecorded modelled life name s r) (going : has_failed r ≡ false) where
     -- ---- no record: nothing durable changes
@@ -145,7 +156,6 @@ module _ {D : Type 0} (modelled : Bool) (life : D → Life) (name : List ℕ) wh
         pub read_recorded : IsKept new → IsRecorded modelled life name new after
         read_recorded kept = record {
           kept = kept;
-          rest = subst IsAtRest (sym stays.staged) is.rest;
           held = ap (λ (j : Journal). held_of j) (same_journal life r after stays) ∙ is.held ∙ ap (λ (d : Durable). held_for (layout_of r) d.doubts) (sym same) ∙ ap (λ (l : Layout). held_for l (durable_part new).doubts) (sym stays.layout);
           inside = subst (λ (j : Journal). end_of (region_of j) ≤ length (life (disk_of after)).seen) (sym (same_journal life r after stays))
               (subst (λ (i : List ℕ). end_of (region_of (journal_of r)) ≤ length i) (sym stays.disk.same) is.inside);
@@ -153,7 +163,7 @@ module _ {D : Type 0} (modelled : Bool) (life : D → Life) (name : List ℕ) wh
               let there = is.on_disk modelled_disk going in
               record {
                 entries = there.entries;
-                settled = subst (λ (j : Journal). IsSettled modelled (life (disk_of after)) j there.entries) (sym (same_journal life r after stays)) (settled_still modelled (life (disk_of r)) (life (disk_of after)) (journal_of r) there.entries stays.disk there.settled);
+                settled = there_still modelled life r after there.entries stays there.settled;
                 holds = here there;
                 none_begun = ap (λ (m : MadeRecords). m.begun) stays.made ∙ there.none_begun;
               };
@@ -193,7 +203,7 @@ module _ {D : Type 0} (modelled : Bool) (life : D → Life) (name : List ℕ) wh
         record_on_disk modelled_disk =
             let there = is.on_disk modelled_disk going in
             let settled = made.settled there.entries there.settled in
-            let here = subst (λ (g : Region). Stands g (there.entries ++ entry_of said ∷ []) (life (disk_of after)).seen) made.region settled.stands in
+            let here = subst (λ (g : Region). Stands g (there.entries ++ entry_of said ∷ []) (life (disk_of after)).seen) made.region (there_stand modelled life after (there.entries ++ entry_of said ∷ []) settled) in
             record {
               entries = there.entries ++ entry_of said ∷ [];
               settled = settled;
@@ -207,7 +217,7 @@ module _ {D : Type 0} (modelled : Bool) (life : D → Life) (name : List ℕ) wh
         durable_after : IsTrue modelled → IsDurable (shown_on life (core_on name new after))
         durable_after modelled_disk =
             let here = record_on_disk modelled_disk in
-            laws.calls_made.durable (core_on name new after) (layout_of after) (region_of (journal_of after)) here.entries here.settled.durable here.holds here.none_begun
+            laws.calls_made.durable (core_on name new after) (layout_of after) (region_of (journal_of after)) here.entries here.holds (there_left modelled life after here.entries here.settled) here.none_begun
 
         record_made : IsTrue modelled → Made ((said ∷ []) ∷ []) [] (shown_on life (core_on name s r)) (shown_on life (core_on name new after))
         record_made modelled_disk =
@@ -228,7 +238,6 @@ module _ {D : Type 0} (modelled : Bool) (life : D → Life) (name : List ℕ) wh
         pub record_recorded : IsKept new → IsRecorded modelled life name new after
         record_recorded kept = record {
           kept = kept;
-          rest = made.rest;
           held = (let sum : held_of (journal_of after) ≡ held_for (layout_of r) (durable_part new).doubts = omega (arith, made.held, holds_for, is.held) in sum) ∙ ap (λ (l : Layout). held_for l (durable_part new).doubts) (sym made.layout);
           inside = subst (λ (g : Region). end_of g ≤ length (life (disk_of after)).seen) (sym made.region) (subst (λ (n : ℕ). end_of (region_of (journal_of r)) ≤ n) (sym made.others.size) is.inside);
           on_disk = λ modelled_disk still. record_on_disk modelled_disk;
@@ -256,7 +265,6 @@ module _ {D : Type 0} (modelled : Bool) (life : D → Life) (name : List ℕ) wh
         pub left_recorded : IsRecorded modelled life name s after
         left_recorded = record {
           kept = is.kept;
-          rest = left.rest;
           held = ap (λ (j : Journal). held_of j) left.journal ∙ is.held ∙ ap (λ (l : Layout). held_for l (durable_part s).doubts) (sym left.layout);
           inside = subst (λ (j : Journal). end_of (region_of j) ≤ length (life (disk_of after)).seen) (sym left.journal) (subst (λ (n : ℕ). end_of (region_of (journal_of r)) ≤ n) (sym left.others.size) is.inside);
           on_disk = λ modelled_disk still. absurd (false≢true (sym still ∙ left.failed));

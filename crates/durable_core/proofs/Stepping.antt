@@ -53,7 +53,6 @@ module _ {D : Type 0} (modelled : Bool) (life : D → Life) (name : List ℕ) wh
       pub allowed : (said : UnitRecord) → record_due s conversation k ≡ Some said → Allows modelled life r said
       allowed said due = record {
         going = going;
-        rest = is.rest;
         inside = is.inside;
         released_is_held = subst (λ (n : ℕ). released (layout_of r) said ≤ n) (sym is.held) (all.of_doubts (layout_of r) s conversation k said is.kept due).0;
       }

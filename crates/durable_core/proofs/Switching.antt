@@ -16,6 +16,8 @@ use Rattle.tables.specs.Tables.{Store as Tables}
 use Rattle.unit_journal.specs.Journal.{IsSettled, held_of, region_of, room_of}
 use Rattle.unit_journal.specs.declared.journal.Journal.{Journal}
 use Rattle.unit_journal.specs.Record.{Entry}
+use Rattle.unit_journal.specs.Staged.{IsAtRest}
+use Rattle.unit_journal.proofs.Staging.{begins_at_rest}
 use Rattle.unit_journal.specs.Stands.{StandsFrom}
 use Rattle.unit_records.specs.MadeRecords.{MadeRecords}
 use Rattle.unit_records.specs.Records.{entry_of}
@@ -39,7 +41,7 @@ use Rattle.recovery.proofs.Going.{made_nothing}
 use Rattle.recovery.proofs.Reading.{active_sized, half_large, one_store}
 use Rattle.journal_recorder.specs.Checkpointing as recorder
 use Rattle.journal_recorder.specs.Checkpointing.{HasStore, IsSwitched, KeepsOld, LeavesOldOrNew, LeavesOpen, OfStore, RestsWith, StaysOn, Switches}
-use Rattle.journal_recorder.specs.Recording.{disk_of, has_failed, journal_of, layout_of, made_of}
+use Rattle.journal_recorder.specs.Recording.{disk_of, has_failed, journal_of, layout_of, made_of, staged_of}
 use Rattle.journal_recorder.specs.declared.checkpointing.CheckpointError.{CheckpointError}
 use Rattle.journal_recorder.specs.declared.checkpointing.CheckpointError.TheVariants as error
 use Rattle.journal_recorder.specs.declared.recorder.DiskRecorder.{DiskRecorder}
@@ -48,7 +50,7 @@ use Rattle.durable_core.specs.Recorded.{IsOnDisk, IsRecorded, core_on}
 use Rattle.durable_core.specs.declared.checkpointing.Checkpointed.{Checkpointed}
 use Rattle.durable_core.specs.declared.checkpointing.Checkpointed.TheVariants.{DeviceFailed, Done, Full, NoMemory}
 use Rattle.durable_core.proofs.Heads.{ends_in}
-use Rattle.durable_core.proofs.Recording.{done_in, durable_from, no_faults, some_fault}
+use Rattle.durable_core.proofs.Recording.{done_in, durable_from, no_faults, some_fault, there_only}
 
 -- ---- images
 
@@ -170,30 +172,30 @@ pub record Laws : Type 0 where
   pub stores : CheckpointsAreStores
 
 -- the store over which it is written
-module _ {D : Type 0} (modelled : Bool) (life : D → Life) (name : List ℕ) (s : CoreState) (r : DiskRecorder D) (is : IsRecorded modelled life name s r) (going : has_failed r ≡ false) where
+module _ {D : Type 0} (modelled : Bool) (life : D → Life) (name : List ℕ) (s : CoreState) (r : DiskRecorder D) (is : IsRecorded modelled life name s r) (going : has_failed r ≡ false) (rest : IsAtRest (staged_of r)) where
   there : IsTrue modelled → IsOnDisk modelled life name s r
   there m = is.on_disk m going
 
   rests : (m : IsTrue modelled) → RestsWith modelled life r (there m).holds.store
   rests m = record {
-    rests = record { modelled_disk = m; durable = (there m).settled.durable; active = (there m).holds.active };
+    rests = record { modelled_disk = m; durable = there_only modelled life r rest (there m).entries (there m).settled; active = (there m).holds.active };
     journal = (there m).holds.journal.ends;
   }
 
   pub has_store : HasStore modelled life r
   has_store m = ((there m).holds.store, rests m)
 
-module _ {D : Type 0} (modelled : Bool) (life : D → Life) (name : List ℕ) (laws : Laws) (s : CoreState) (r : DiskRecorder D) (is : IsRecorded modelled life name s r) (going : has_failed r ≡ false)
+module _ {D : Type 0} (modelled : Bool) (life : D → Life) (name : List ℕ) (laws : Laws) (s : CoreState) (r : DiskRecorder D) (is : IsRecorded modelled life name s r) (going : has_failed r ≡ false) (rest : IsAtRest (staged_of r))
     (fs : List Entry) (are : fs ≡ map entry_of (records_of (durable_part s).doubts)) (placed : AreGood (records_of (durable_part s).doubts) → are_placed (durable_part s).doubts s.base.store ≡ true)
     (hold : ℕ) (bytes : hold ≡ held_for Two (durable_part s).doubts) where
   abbrev tables : Tables
   tables = s.base.store
 
   abbrev disk_there : IsTrue modelled → IsOnDisk modelled life name s r
-  disk_there m = there modelled life name s r is going m
+  disk_there m = there modelled life name s r is going rest m
 
   store_rests : (m : IsTrue modelled) → RestsWith modelled life r (disk_there m).holds.store
-  store_rests m = rests modelled life name s r is going m
+  store_rests m = rests modelled life name s r is going rest m
 
   leads : IsTrue modelled → Leads (at_checkpoint tables) fs (durable_part s)
   leads m =
@@ -237,7 +239,6 @@ module _ {D : Type 0} (modelled : Bool) (life : D → Life) (name : List ℕ) (l
   switched : (new : DiskRecorder D) → Switches modelled life r tables fs hold new → IsRecorded modelled life name s new
   switched new w = record {
     kept = is.kept;
-    rest = w.stays.rest;
     held = w.held ∙ bytes ∙ ap (λ (l : Layout). held_for l (durable_part s).doubts) (sym w.layout);
     inside = w.inside;
     on_disk = λ m still.
@@ -245,7 +246,7 @@ module _ {D : Type 0} (modelled : Bool) (life : D → Life) (name : List ℕ) (l
         let after = subst (λ (n : ℕ). IsSwitched modelled (life (disk_of new)) (life (disk_of r)).seen h.store tables fs n (journal_of new)) bytes (w.switched h.store (store_rests m)) in
         record {
           entries = fs;
-          settled = after.settled;
+          settled = begins_at_rest modelled (life (disk_of new)) (staged_of new) w.stays.rest fs after.settled;
           holds = subst (λ (l : Layout). Holds name l (region_of (journal_of new)) fs (durable_part s) (life (disk_of new)).seen) (sym w.layout)
               (switched_there laws.moments name (layout_of r) (region_of (journal_of r)) (disk_there m).entries (durable_part s) (life (disk_of r)).seen h fs (leads m) modelled (life (disk_of new)) (journal_of new) after);
           none_begun = ap (λ (n : MadeRecords). n.begun) w.stays.made ∙ (disk_there m).none_begun;
@@ -262,7 +263,6 @@ module _ {D : Type 0} (modelled : Bool) (life : D → Life) (name : List ℕ) (l
   kept : (new : DiskRecorder D) → KeepsOld modelled life r tables fs hold new → IsRecorded modelled life name s new
   kept new k = record {
     kept = is.kept;
-    rest = k.stays.rest;
     held = still_held new k.journal k.layout;
     inside = inside_still new k.journal k.stays.size;
     on_disk = λ m still.
@@ -273,8 +273,9 @@ module _ {D : Type 0} (modelled : Bool) (life : D → Life) (name : List ℕ) (l
         kept_there laws.moments name (layout_of r) (region_of (journal_of r)) (disk_there m).entries (durable_part s) (life (disk_of r)).seen h fs (life (disk_of new)).seen goes.is in
         record {
           entries = (disk_there m).entries;
-          settled = subst (λ (j : Journal). IsSettled modelled (life (disk_of new)) j (disk_there m).entries) (sym k.journal)
-              (record { modelled_disk = m; durable = goes.durable; stands = holds.stands; next = old.next });
+          settled = begins_at_rest modelled (life (disk_of new)) (staged_of new) k.stays.rest (disk_there m).entries
+              (subst (λ (j : Journal). IsSettled modelled (life (disk_of new)) j (disk_there m).entries) (sym k.journal)
+              (record { modelled_disk = m; durable = goes.durable; stands = holds.stands; next = old.next }));
           holds = subst (λ (l : Layout). Holds name l (region_of (journal_of new)) (disk_there m).entries (durable_part s) (life (disk_of new)).seen) (sym k.layout)
               (subst (λ (j : Journal). Holds name (layout_of r) (region_of j) (disk_there m).entries (durable_part s) (life (disk_of new)).seen) (sym k.journal) holds);
           none_begun = ap (λ (n : MadeRecords). n.begun) k.stays.made ∙ (disk_there m).none_begun;
@@ -284,7 +285,6 @@ module _ {D : Type 0} (modelled : Bool) (life : D → Life) (name : List ℕ) (l
   left_open : (new : DiskRecorder D) → LeavesOpen modelled life r tables fs hold new → IsRecorded modelled life name s new
   left_open new l = record {
     kept = is.kept;
-    rest = l.stays.rest;
     held = still_held new l.journal l.layout;
     inside = inside_still new l.journal l.stays.size;
     on_disk = λ m still. absurd (false≢true (sym still ∙ l.failed));

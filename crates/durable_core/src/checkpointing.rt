@@ -16,15 +16,15 @@ use crate::durable::DurableCore;
 use crate::holding::held_at;
 use drda_disk::Disk;
 use half_store::Layout;
-use journal_recorder::{CheckpointError, heuristic_record, prepare_record};
+use journal_recorder::{CheckpointError, heuristic_record, pages_are_kept, prepare_record};
 use rdb_core::Core;
 use recovery::find_places;
-use recovery::images::calls_make_records;
+use recovery::images::{calls_go_on, calls_make_records, groups_stay};
 use recovery::laws::{doubts_are_laid, records_lead_to_sound_states};
 use std::alloc::AllocError;
 use store_check::{checkpoints_are_known, moments_hold};
 use unit_journal::Record;
-use unit_records::Recorder;
+use unit_records::{DeviceFailed, Recorder};
 use xa_calls::Xid;
 use xa_manager::{BranchState, Decision};
 
@@ -64,7 +64,10 @@ impl<D: Disk> DurableCore<D> {
         doubts_are_laid();
         records_lead_to_sound_states();
         checkpoints_are_known();
+        groups_stay();
         calls_make_records::<D>();
+        calls_go_on::<D>();
+        pages_are_kept::<D>();
         if self.core.recorder.is_failed() {
             return Checkpointed::Closed;
         }
@@ -77,6 +80,10 @@ impl<D: Disk> DurableCore<D> {
             Err(_) => return Checkpointed::NoMemory,
         }
         let held = held_in(&self.core);
+        match self.core.recorder.rest() {
+            Ok(()) => {}
+            Err(DeviceFailed) => return Checkpointed::DeviceFailed,
+        }
         told(
             self.core
                 .recorder

@@ -1,6 +1,7 @@
 //! The core over a disk: what is committed, prepared and decided outlasts a crash.
 #![tactic(auto)]
 
+mod ahead;
 mod checkpointing;
 mod closing;
 mod deciding;

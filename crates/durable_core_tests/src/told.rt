@@ -1,6 +1,7 @@
 //! What is asked of an open store that no call of a conversation asks, and how it is told.
 
 use crate::bench::Core;
+use drda_disk::Flusher;
 use durable_core::{Checkpointed, Decided, OpenError, PlainError, Together};
 use std::alloc::{AllocError, Global};
 use test_calls::{push_bytes, push_text, xid_of};
@@ -77,13 +78,22 @@ fn group_call(alloc: Global, word: &str) -> Option<GroupCall> {
     })
 }
 
-// These calls are made together.
-fn make_together(alloc: Global, core: &mut Core, words: &str) -> Option<Together> {
+// These calls are made together, or their records are laid ahead of that: what came of it.
+fn make_group(alloc: Global, core: &mut Core, words: &str, is_ahead: bool) -> Option<&'static str> {
     let mut calls = Vec::new(alloc);
     for word in words.split_ascii_whitespace() {
         calls.push(group_call(alloc, word)?).ok()?;
     }
-    Some(core.make_together(&calls))
+    if !is_ahead {
+        return Some(told_together(core.make_together(&calls)));
+    }
+    match core.lay_ahead(&calls) {
+        Some(flusher) => {
+            let _flushed = flusher.flush();
+            Some("laid")
+        }
+        None => Some("not laid"),
+    }
 }
 
 // The branch of an XID is decided heuristically, to `commit` or to `rollback`.
@@ -148,7 +158,7 @@ fn told_copy(core: &mut Core) -> &'static str {
 }
 
 /// `together` makes calls together: each is C, the commit of the conversation C, or PHASE=N, by which the conversation N asks for a phase of the
-/// branch =N. `decide XID commit` or `rollback` decides a branch heuristically, `checkpoint` makes a checkpoint, `room` tells the store's name and
+/// branch =N. `ahead` lays their records ahead of that, and `settle` settles the disk. `decide XID commit` or `rollback` decides a branch heuristically, `checkpoint` makes a checkpoint, `room` tells the store's name and
 /// the room of its journal, `layout` the layout of its active half, `in_doubt` and `branches` which branches are in doubt, and `copy` copies
 /// the state.
 pub fn tell(
@@ -159,7 +169,12 @@ pub fn tell(
     out: &mut Vec<u8>,
 ) -> Option<()> {
     match verb {
-        "together" => push_text(out, told_together(make_together(alloc, core, rest)?)),
+        "together" => push_text(out, make_group(alloc, core, rest, false)?),
+        "ahead" => push_text(out, make_group(alloc, core, rest, true)?),
+        "settle" => {
+            core.settle(Flusher::nothing().flush());
+            push_text(out, "settled")
+        }
         "decide" => push_text(out, told_decided(decide(alloc, core, rest)?)),
         "checkpoint" => push_text(out, &told_checkpoint(alloc, core.checkpoint()).ok()?),
         "room" => {

@@ -6,8 +6,6 @@ use Rattle.drda_disk.specs.declared.region.Region.{Region}
 use Rattle.half_store.specs.Layout.{half_len}
 use Rattle.paged_tables.specs.TablesByName.{AreOnPages, LieInside, LieOutside, Tables}
 use Rattle.unit_journal.specs.Journal.{region_of}
-use Rattle.unit_journal.specs.Staged.{journal_of as journal_in, region_of as region_in}
-use Rattle.unit_journal.specs.declared.staged.Staged.{Staged}
 use Rattle.unit_records.specs.Records.{UnitRecord}
 use Rattle.unit_records.specs.declared.record_error.RecordError.{RecordError}
 use Rattle.unit_records.specs.declared.record_error.RecordError.TheVariants as record_error
@@ -48,16 +46,8 @@ module _ {D : Type 0} (modelled : Bool) (life : D → Life) where
     failed = λ old said error new tables is has. by_error old said error new tables is has;
     all_recorded = λ old records new tables is has. written old new tables is.others is.region (λ going. is.was_going) has;
     all_left_open = λ old records new tables is has. left_open old new tables is.others is.journal is.failed has;
-    laid = λ old records new tables is has. written old new tables is.others is.stages.region (λ going. is.was_going) has;
-    not_laid = λ old records new tables is has. left_open old new tables is.others (ap (λ (s : Staged). journal_in s) is.staged) is.failed has;
-    opened = λ old new tables is has. written old new tables is.others is.stages.region (λ going. is.was_going) has;
-    not_opened = λ old new tables is has. left_open old new tables is.others (ap (λ (s : Staged). journal_in s) is.staged) is.failed has;
-    dropped = λ old new tables is has. placed old new tables (ap (λ (d : D). length (life d).seen) is.disk) is.stages.region
-        (λ m going. subst (λ (d : D). AreOnPages (life d).seen tables) (sym is.disk) (has.stand m (sym is.failed ∙ going))) has;
-    settled = λ old new tables is has. placed old new tables (ap (λ (l : List ℕ). length l) is.stays.same) is.stages.region
-        (λ m going. subst (λ (l : List ℕ). AreOnPages l tables) (sym is.stays.same) (has.stand m is.was_going)) has;
-    not_settled = λ old new tables is has. placed old new tables (ap (λ (l : List ℕ). length l) is.stays.same) (ap (λ (s : Staged). region_in s) is.staged)
-        (λ m going. absurd (never is.failed going)) has;
+    laid_ahead = λ old new tables is has. written old new tables is.others (ap region_of is.journal) (λ going. sym is.going ∙ going) has;
+    not_laid = λ old new tables is has. left_open old new tables is.others is.journal is.failed has;
     changed = λ r old new stay has. record {
       inside = stay.inside (length (seen r)) has.inside;
       front = λ m. stay.inside (region_of (journal_of r)).at (has.front m);

@@ -51,7 +51,7 @@ module _ {D : Type 0} (modelled : Bool) (life : D → Life) where
   abbrev pub LeavesOldOrNew : DiskRecorder D → Tables → List Entry → ℕ → DiskRecorder D → Type 0
   LeavesOldOrNew old tables es hold new = OfStore old (λ store. LeavesOnly (disk_life old) (disk_life new) (Moment (disk_life old).seen store tables es hold))
 
-  -- the records that were made stay, and so does the size of the disk; no group is on its way
+  -- the records that were made stay, and so does the size of the disk; the journal is at rest
   pub record StaysOn (old new : DiskRecorder D) : Type 0 where
     pub size : length (disk_life new).seen ≡ length (disk_life old).seen
     pub rest : IsAtRest (staged_of new)

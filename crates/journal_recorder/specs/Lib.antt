@@ -1,5 +1,5 @@
 pub mod Laying
 pub mod Recording
-pub mod Staging
+pub mod Ahead
 pub mod Reading
 pub mod Checkpointing

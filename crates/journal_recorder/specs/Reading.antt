@@ -11,8 +11,8 @@ use Rattle.paged_tables.specs.TablesByName.{AreOnPages, LieInside, LieOutside, P
 use Rattle.unit_journal.specs.Journal.{region_of}
 use Rattle.unit_records.specs.Records.{UnitRecord}
 use Rattle.unit_records.specs.declared.record_error.RecordError.{RecordError}
-use Rattle.journal_recorder.specs.Staging.{DropsLaid, FailsToLay, FailsToOpen, FailsToSettle, LaysAll, OpensLaid, Settles}
-use Rattle.journal_recorder.specs.Recording.{AreLeftOpen, Fails, Records, RecordsAll, disk_of, has_failed, journal_of, laid_by, layout_of, made_of, staged_of}
+use Rattle.journal_recorder.specs.Ahead.{FailsAhead, LaysAhead}
+use Rattle.journal_recorder.specs.Recording.{AreLeftOpen, Fails, Records, RecordsAll, disk_of, has_failed, journal_of, layout_of, made_of, staged_of}
 use Rattle.journal_recorder.specs.declared.recorder.DiskRecorder.{DiskRecorder}
 
 -- why nothing was read, and what becomes of the recorder
@@ -35,7 +35,6 @@ module _ {D : Type 0} (modelled : Bool) (life : D → Life) where
     pub stays : Stays (life (disk_of old)) (life (disk_of new))
     pub faults : (life (disk_of new)).faults ≡ (life (disk_of old)).faults
     pub staged : staged_of new ≡ staged_of old
-    pub laid : laid_by new ≡ laid_by old
     pub layout : layout_of new ≡ layout_of old
     pub made : made_of new ≡ made_of old
     pub failed : has_failed new ≡ has_failed old
@@ -48,7 +47,6 @@ module _ {D : Type 0} (modelled : Bool) (life : D → Life) where
     pub faults : IsTrue modelled → has_failed old ≡ false → (life (disk_of new)).faults ≡ (life (disk_of old)).faults + 1
     pub at_most : ((life (disk_of new)).faults ≡ (life (disk_of old)).faults + 1) ⊎ ((life (disk_of new)).faults ≡ (life (disk_of old)).faults)
     pub staged : staged_of new ≡ staged_of old
-    pub laid : laid_by new ≡ laid_by old
     pub layout : layout_of new ≡ layout_of old
     pub made : made_of new ≡ made_of old
     pub failed : has_failed new ≡ true
@@ -56,18 +54,13 @@ module _ {D : Type 0} (modelled : Bool) (life : D → Life) where
 
   -- ---- laws
 
-  -- tables whose pages can be read are so behind a record that is made or left open, behind each stage of those that are on
-  -- their way, and behind changes in memory
+  -- tables whose pages can be read are so behind a record that is made or left open, behind what is laid ahead, and behind
+  -- changes in memory
   pub record PagesAreKept : Type 0 where
     pub recorded : (old : DiskRecorder D) (said : UnitRecord) (new : DiskRecorder D) (tables : Tables) → Records modelled life old said new → HasPages old tables → HasPages new tables
     pub failed : (old : DiskRecorder D) (said : UnitRecord) (error : RecordError) (new : DiskRecorder D) (tables : Tables) → Fails modelled life old said error new → HasPages old tables → HasPages new tables
     pub all_recorded : (old : DiskRecorder D) (records : List UnitRecord) (new : DiskRecorder D) (tables : Tables) → RecordsAll modelled life old records new → HasPages old tables → HasPages new tables
     pub all_left_open : (old : DiskRecorder D) (records : List UnitRecord) (new : DiskRecorder D) (tables : Tables) → AreLeftOpen modelled life old records new → HasPages old tables → HasPages new tables
     pub changed : (r : DiskRecorder D) (old new : Tables) → PagesStay old new → HasPages r old → HasPages r new
-    pub laid : (old : DiskRecorder D) (records : List UnitRecord) (new : DiskRecorder D) (tables : Tables) → LaysAll modelled life old records new → HasPages old tables → HasPages new tables
-    pub not_laid : (old : DiskRecorder D) (records : List UnitRecord) (new : DiskRecorder D) (tables : Tables) → FailsToLay modelled life old records new → HasPages old tables → HasPages new tables
-    pub opened : (old new : DiskRecorder D) (tables : Tables) → OpensLaid modelled life old new → HasPages old tables → HasPages new tables
-    pub not_opened : (old new : DiskRecorder D) (tables : Tables) → FailsToOpen modelled life old new → HasPages old tables → HasPages new tables
-    pub dropped : (old new : DiskRecorder D) (tables : Tables) → DropsLaid modelled life old new → HasPages old tables → HasPages new tables
-    pub settled : (old new : DiskRecorder D) (tables : Tables) → Settles modelled life old new → HasPages old tables → HasPages new tables
-    pub not_settled : (old new : DiskRecorder D) (tables : Tables) → FailsToSettle modelled life old new → HasPages old tables → HasPages new tables
+    pub laid_ahead : (old new : DiskRecorder D) (tables : Tables) → LaysAhead modelled life old new → HasPages old tables → HasPages new tables
+    pub not_laid : (old new : DiskRecorder D) (tables : Tables) → FailsAhead modelled life old new → HasPages old tables → HasPages new tables

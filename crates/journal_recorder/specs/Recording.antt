@@ -5,9 +5,9 @@ use Rattle.drda_disk.specs.Disk.{LeavesOnly, Life}
 use Rattle.drda_disk.specs.Region.{SameOutside, end_of}
 use Rattle.half_store.specs.declared.header.Layout.{Layout}
 use Rattle.unit_journal.specs.declared.journal.Journal.{Journal}
-use Rattle.unit_journal.specs.Journal.{IsSettled, held_of, region_of, room_of}
+use Rattle.unit_journal.specs.Journal.{held_of, region_of, room_of}
 use Rattle.unit_journal.specs.Record.{Entry}
-use Rattle.unit_journal.specs.Staged.{IsAtRest}
+use Rattle.unit_journal.specs.Staged.{IsUnderWay}
 use Rattle.unit_journal.specs.declared.staged.Staged.{Staged}
 use Rattle.unit_journal.specs.Stands.{IsBeforeOrAfter, IsBeforeOrAfterAll}
 use Rattle.unit_records.specs.MadeRecords.{MadeRecords, with_begun, with_done}
@@ -17,11 +17,11 @@ use Rattle.unit_records.specs.declared.record_error.RecordError.{RecordError}
 use Rattle.unit_records.specs.declared.record_error.RecordError.TheVariants.{DeviceFailed, Full, NoMemory}
 use Rattle.journal_recorder.specs.declared.recorder.DiskRecorder.{DiskRecorder}
 
--- its journal, with the groups of records that are on their way
+-- its journal, with what was laid behind it
 abbrev pub staged_of : {D : Type 0} → DiskRecorder D → Staged
 staged_of r = r.staged
 
--- the journal alone, which ends in front of them
+-- the journal alone, which ends in front of that
 abbrev pub journal_of : {D : Type 0} → DiskRecorder D → Journal
 journal_of r = r.staged.journal
 
@@ -40,29 +40,28 @@ has_failed r = r.is_failed
 abbrev pub made_of : {D : Type 0} → DiskRecorder D → MadeRecords
 made_of r = r.made.groups.value
 
--- the records that it laid last
-abbrev pub laid_by : {D : Type 0} → DiskRecorder D → List Entry
-laid_by r = r.made.laid.value
-
 module _ {D : Type 0} (modelled : Bool) (life : D → Life) where
   abbrev pub life_of : DiskRecorder D → Life
   life_of r = life (disk_of r)
 
-  -- it can record: the device has not failed, no group is on its way, and what is released is held
+  -- these records are there to stay: a crash leaves them and no others, whatever was laid ahead behind them
+  abbrev pub AreThere : DiskRecorder D → List Entry → Type 0
+  AreThere r es = IsUnderWay modelled (life_of r) (staged_of r) es
+
+  -- it can record: the device has not failed, and what is released is held
   pub record Allows (r : DiskRecorder D) (said : UnitRecord) : Type 0 where
     pub going : has_failed r ≡ false
-    pub rest : IsAtRest (staged_of r)
     pub inside : end_of (region_of (journal_of r)) ≤ length (life_of r).seen
     pub released_is_held : released (layout_of r) said ≤ held_of (journal_of r)
 
   -- a crash at any moment leaves the records from before, with this one or without
   abbrev pub LeavesOneMore : DiskRecorder D → UnitRecord → DiskRecorder D → Type 0
-  LeavesOneMore old said new = (es : List Entry) → IsSettled modelled (life_of old) (journal_of old) es
+  LeavesOneMore old said new = (es : List Entry) → AreThere old es
       → LeavesOnly (life_of old) (life_of new) (IsBeforeOrAfter (region_of (journal_of old)) (life_of old).seen es (entry_of said))
 
   pub record Records (old : DiskRecorder D) (said : UnitRecord) (new : DiskRecorder D) : Type 0 where
     pub good : IsGood said
-    pub settled : (es : List Entry) → IsSettled modelled (life_of old) (journal_of old) es → IsSettled modelled (life_of new) (journal_of new) (es ++ entry_of said ∷ [])
+    pub settled : (es : List Entry) → AreThere old es → AreThere new (es ++ entry_of said ∷ [])
     pub moments : LeavesOneMore old said new
     pub others : SameOutside (region_of (journal_of old)) (life_of old).seen (life_of new).seen
     pub region : region_of (journal_of new) ≡ region_of (journal_of old)
@@ -72,7 +71,6 @@ module _ {D : Type 0} (modelled : Bool) (life : D → Life) where
     pub faults : (life_of new).faults ≡ (life_of old).faults
     pub was_going : has_failed old ≡ false
     pub going : has_failed new ≡ false
-    pub rest : IsAtRest (staged_of new)
     pub made : made_of new ≡ with_done (made_of old) ((entry_of said ∷ []) ∷ [])
 
   -- the record and what it holds back are longer than the room and what it releases; what is needed stops at 2^64 - 1
@@ -91,7 +89,6 @@ module _ {D : Type 0} (modelled : Bool) (life : D → Life) where
     pub layout : layout_of new ≡ layout_of old
     pub faults : (life_of new).faults ≡ (life_of old).faults + 1
     pub failed : has_failed new ≡ true
-    pub rest : IsAtRest (staged_of new)
     pub begun : made_of new ≡ with_begun (made_of old) ((entry_of said ∷ []) ∷ [])
 
   abbrev pub Fails : DiskRecorder D → UnitRecord → RecordError → DiskRecorder D → Type 0
@@ -104,18 +101,17 @@ module _ {D : Type 0} (modelled : Bool) (life : D → Life) where
   -- it can record, and all that is released together is held
   pub record AllowsAll (r : DiskRecorder D) (records : List UnitRecord) : Type 0 where
     pub going : has_failed r ≡ false
-    pub rest : IsAtRest (staged_of r)
     pub inside : end_of (region_of (journal_of r)) ≤ length (life_of r).seen
     pub released_is_held : released_by (layout_of r) records ≤ held_of (journal_of r)
 
   -- a crash at any moment leaves the records from before, with all of these or without
   abbrev pub LeavesAllMore : DiskRecorder D → List UnitRecord → DiskRecorder D → Type 0
-  LeavesAllMore old records new = (es : List Entry) → IsSettled modelled (life_of old) (journal_of old) es
+  LeavesAllMore old records new = (es : List Entry) → AreThere old es
       → LeavesOnly (life_of old) (life_of new) (IsBeforeOrAfterAll (region_of (journal_of old)) (life_of old).seen es (map entry_of records))
 
   pub record RecordsAll (old : DiskRecorder D) (records : List UnitRecord) (new : DiskRecorder D) : Type 0 where
     pub good : AllByRecursion IsGood records
-    pub settled : (es : List Entry) → IsSettled modelled (life_of old) (journal_of old) es → IsSettled modelled (life_of new) (journal_of new) (es ++ map entry_of records)
+    pub settled : (es : List Entry) → AreThere old es → AreThere new (es ++ map entry_of records)
     pub moments : LeavesAllMore old records new
     pub others : SameOutside (region_of (journal_of old)) (life_of old).seen (life_of new).seen
     pub region : region_of (journal_of new) ≡ region_of (journal_of old)
@@ -125,7 +121,6 @@ module _ {D : Type 0} (modelled : Bool) (life : D → Life) where
     pub faults : (life_of new).faults ≡ (life_of old).faults
     pub was_going : has_failed old ≡ false
     pub going : has_failed new ≡ false
-    pub rest : IsAtRest (staged_of new)
     pub made : made_of new ≡ with_done (made_of old) (map entry_of records ∷ [])
 
   -- they were begun: whether they are there, all or none, shows when the store is opened again
@@ -138,5 +133,4 @@ module _ {D : Type 0} (modelled : Bool) (life : D → Life) where
     pub layout : layout_of new ≡ layout_of old
     pub faults : (life_of new).faults ≡ (life_of old).faults + 1
     pub failed : has_failed new ≡ true
-    pub rest : IsAtRest (staged_of new)
     pub begun : made_of new ≡ with_begun (made_of old) (map entry_of records ∷ [])

@@ -134,7 +134,7 @@ impl<D: Disk> DiskRecorder<D> {
     /// Writes a checkpoint: the rows of these tables, those of their pages with the changes since, into
     /// the half of the store that is not active, and behind them these records and no others; then that
     /// half is the active one, of layout 2, and what is recorded next stands behind them. `held` bytes are
-    /// held back then. No group of records is on its way. The tables lie over the new pages then, with no changes in memory. Whatever
+    /// held back then. The journal is at rest before. The tables lie over the new pages then, with no changes in memory. Whatever
     /// becomes of it, they have the same rows, and their pages can be read as before.
     ///
     /// A crash at any moment leaves the old half or the new one (`Moment`). Of a disk that gives back what

@@ -1,6 +1,7 @@
 //! Units of work recorded in the journal of a disk, rows read from the pages in front of it, and checkpoints.
 #![tactic(auto)]
 
+mod ahead;
 mod checkpointing;
 mod laws;
 mod laying;
@@ -8,7 +9,6 @@ mod laying_all;
 mod made;
 mod reading;
 mod recorder;
-mod staging;
 
 pub use checkpointing::{CheckpointError, heuristic_record, prepare_record};
 pub use laws::pages_are_kept;

@@ -20,9 +20,8 @@ use unit_journal::{AppendError, Journal, LaidRecord, Staged};
 use unit_records::{DeviceFailed, GroupError, RecordContents, RecordError, Recorder};
 
 /// Records in the journal of a disk, each record by four device calls: write, sync, gate, sync. Records
-/// that are made together take as many for all of them, and may be made in stages, between which the disk is
-/// flushed from outside: they are laid, they are opened once that has settled, and once this has too they are
-/// there to stay. A lone record is made where none is on its way. A prepare holds the bytes of its decision back,
+/// that are made together take as many for all of them, and may be laid ahead: where the disk was flushed since,
+/// gate and sync are left. A prepare holds the bytes of its decision back,
 /// and in layout 2 those of its forgetting too, so that a decision, a heuristic one and a forgetting
 /// always have room. It reads the rows of tables whose pages lie in front of the journal, and keeps pages
 /// until the next checkpoint. Once the device has failed nothing is recorded or read any more,
@@ -90,14 +89,7 @@ impl<D: Disk> DiskRecorder<D> {
         self.staged.journal().region()
     }
 
-    /// The journal, with the groups of records that are on their way.
-    pub fn staged(&self) -> &Staged
-        ensures { result.now ≡ staged_of self.now }
-    {
-        &self.staged
-    }
-
-    /// How many bytes of the journal are left for records, in front of which those on their way count as none.
+    /// How many bytes of the journal are left for records; those that were laid ahead take none.
     pub fn room(&self) -> usize
         ensures { result ≡ room_of (journal_of self.now) }
     {
@@ -129,7 +121,6 @@ impl<D: Disk> DiskRecorder<D> {
     // Adds a record that fits; a failure of the device is remembered.
     fn append(&mut self, laid: &LaidRecord, hold: usize, release: usize) -> Result<(), RecordError>
         requires going { has_failed self.old ≡ false }
-        requires rest { IsAtRest (staged_of self.old) }
         requires inside { end_of (region_of (journal_of self.old)) ≤ length (D.life (disk_of self.old)).seen }
         requires released { release ≤ held_of (journal_of self.old) }
         requires fits { 6 + length (entry_in laid.now).body + hold ≤ room_of (journal_of self.old) + release }
@@ -156,7 +147,6 @@ impl<D: Disk> DiskRecorder<D> {
     // Adds records at once, all of them or none; a failure of the device is remembered.
     fn append_all(&mut self, laid: &LaidTogether) -> Result<(), GroupError>
         requires going { has_failed self.old ≡ false }
-        requires rest { IsAtRest (staged_of self.old) }
         requires inside { end_of (region_of (journal_of self.old)) ≤ length (D.life (disk_of self.old)).seen }
         requires counted { length (spelled laid.now.group) + laid.now.hold < 2 ^ 64 }
         requires released { laid.now.release ≤ held_of (journal_of self.old) }
@@ -210,34 +200,18 @@ impl<D: Disk> Recorder for DiskRecorder<D> {
         }
     }
 
-    ghost use Rattle.journal_recorder.specs.Staging.{AllowsLaying, AllowsOpening, DropsLaid, FailsToLay, FailsToOpen, LaysAll, OpensLaid};
+    ghost use Rattle.journal_recorder.specs.Ahead.{FailsAhead, LaysAhead, nothing_laid};
 
-    ghost allows_lay = { λ old records. AllowsLaying D.is_modelled D.life old records };
+    ghost lays_ahead = { λ old new. LaysAhead D.is_modelled D.life old new };
 
-    ghost lays = { λ old records new. LaysAll D.is_modelled D.life old records new };
+    ghost fails_ahead = { λ old new. FailsAhead D.is_modelled D.life old new };
 
-    ghost fails_to_lay = { λ old records new. FailsToLay D.is_modelled D.life old records new };
-
-    fn lay_all(&mut self, sayings: &[RecordContents<'_>]) -> Result<(), GroupError> {
-        match lay_all(self.alloc, self.layout, sayings, self.staged_room()) {
-            Some(laid) => self.lay_group(&laid),
-            None => Err(GroupError::Refused),
+    fn lay_ahead(&mut self, sayings: &[RecordContents<'_>]) -> Result<bool, DeviceFailed> {
+        match lay_all(self.alloc, self.layout, sayings, self.small_room()) {
+            Some(laid) => self.lay_group(laid),
+            None => Ok(false),
         }
     }
 
-    ghost allows_open = { λ old. AllowsOpening D.is_modelled D.life old };
-
-    ghost opens = { λ old new. OpensLaid D.is_modelled D.life old new };
-
-    ghost fails_to_open = { λ old new. FailsToOpen D.is_modelled D.life old new };
-
-    fn open_laid(&mut self) -> Result<(), DeviceFailed> {
-        self.open_gate()
-    }
-
-    ghost drops = { λ old new. DropsLaid D.is_modelled D.life old new };
-
-    fn drop_laid(&mut self) {
-        self.give_up_laid()
-    }
+    ghost lays_none = { λ r. nothing_laid D.is_modelled D.life r };
 }

@@ -1,4 +1,4 @@
--- The pages of tables can be read behind records that are made together or in stages, whatever became of them.
+-- The pages of tables can be read behind records that are made together or laid ahead, whatever became of them.
 use Rattle.std.proofs.Common.{Bool, List, Result, Ok, Err, IfErr, OnErr, OnOk, sym, subst}
 use Rattle.drda_disk.specs.Disk.{Life}
 use Rattle.paged_tables.specs.TablesByName.{Tables}
@@ -8,7 +8,7 @@ use Rattle.unit_records.specs.declared.group_error.GroupError.{GroupError}
 use Rattle.unit_records.specs.declared.group_error.GroupError.TheVariants.{DeviceFailed, Refused}
 use Rattle.journal_recorder.specs.Reading.{HasPages, PagesAreKept}
 use Rattle.journal_recorder.specs.Recording.{AreLeftOpen, RecordsAll}
-use Rattle.journal_recorder.specs.Staging.{FailsToLay, FailsToOpen, FailsToSettle, LaysAll, OpensLaid, Settles}
+use Rattle.journal_recorder.specs.Ahead.{FailsAhead, LaysAhead}
 use Rattle.journal_recorder.specs.declared.recorder.DiskRecorder.{DiskRecorder}
 
 module _ {D : Type 0} (modelled : Bool) (life : D → Life) (kept : PagesAreKept modelled life) (old new : DiskRecorder D) (tables : Tables) (records : List UnitRecord) (has : HasPages modelled life old tables) where
@@ -20,19 +20,7 @@ module _ {D : Type 0} (modelled : Bool) (life : D → Life) (kept : PagesAreKept
   has_pages (Ok x) made failed_so = kept.all_recorded old records new tables made has
   has_pages (Err error) made failed_so = failed error failed_so
 
-  not_laid : (error : GroupError) → FailsTogether (FailsToLay modelled life) records error old new → HasPages modelled life new tables
-  not_laid Refused same = subst (λ (r : DiskRecorder D). HasPages modelled life r tables) (sym same) has
-  not_laid DeviceFailed failed_so = kept.not_laid old records new tables failed_so has
-
-  pub has_pages_laid : {A : Type 0} (result : Result A GroupError) → OnOk result (LaysAll modelled life old records new) → IfErr result (λ error. FailsTogether (FailsToLay modelled life) records error old new) → HasPages modelled life new tables
-  has_pages_laid (Ok x) laid failed_so = kept.laid old records new tables laid has
-  has_pages_laid (Err error) laid failed_so = not_laid error failed_so
-
 module _ {D : Type 0} (modelled : Bool) (life : D → Life) (kept : PagesAreKept modelled life) (old new : DiskRecorder D) (tables : Tables) (has : HasPages modelled life old tables) where
-  pub has_pages_opened : {A E : Type 0} (result : Result A E) → OnOk result (OpensLaid modelled life old new) → OnErr result (FailsToOpen modelled life old new) → HasPages modelled life new tables
-  has_pages_opened (Ok x) opened failed_so = kept.opened old new tables opened has
-  has_pages_opened (Err error) opened failed_so = kept.not_opened old new tables failed_so has
-
-  pub has_pages_settled : {A E : Type 0} (result : Result A E) → OnOk result (Settles modelled life old new) → OnErr result (FailsToSettle modelled life old new) → HasPages modelled life new tables
-  has_pages_settled (Ok x) settled failed_so = kept.settled old new tables settled has
-  has_pages_settled (Err error) settled failed_so = kept.not_settled old new tables failed_so has
+  pub has_pages_ahead : {A E : Type 0} (result : Result A E) → OnOk result (LaysAhead modelled life old new) → OnErr result (FailsAhead modelled life old new) → HasPages modelled life new tables
+  has_pages_ahead (Ok x) laid failed_so = kept.laid_ahead old new tables laid has
+  has_pages_ahead (Err error) laid failed_so = kept.not_laid old new tables failed_so has

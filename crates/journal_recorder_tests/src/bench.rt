@@ -78,9 +78,8 @@ impl Bench {
 
     // `body KIND BYTES` lays the record of a kind. `one LENGTH CALLS` and `two LENGTH CALLS` are recorders of a layout with an empty journal of
     // so many bytes, and `half CALLS` that of a store of layout 1; each device fails behind so many calls. `make KINDS` makes the records of
-    // these kinds up to the first that is not made, `group` three of them together, and `lay` three in stages, which `open`, `settle` and `drop`
-    // go on with and `stages` tells of; `checkpoint HELD` a checkpoint that holds so many
-    // bytes back. `found` tells which records the disk has, and `laid KIND` the record that is laid behind a checkpoint. `schema` lays the
+    // these kinds up to the first that is not made, `group` three of them together, and `ahead` lays three ahead; `settle` and `rest`
+    // go on; `checkpoint HELD` makes a checkpoint that holds so many bytes back. `found` tells which records the disk has, and `laid KIND` the record that is laid behind a checkpoint. `schema` lays the
     // schema of the tables; `create NAME`, `put NAME VALUES` and `remove NAME KEY` change them in memory, and `row NAME KEY` and
     // `rows NAME` tell rows; `fail` says of what was read last that it is no row of its table.
     fn answer(&mut self, step: &str, out: &mut String) -> Option<()> {
@@ -89,9 +88,9 @@ impl Bench {
             "body" => self.lay(rest),
             "one" | "two" | "half" => self.begin(verb, rest, out),
             "make" => tell(out, &self.make(rest)?),
-            "group" | "lay" => tell(out, &self.make_group(verb, rest)?),
-            "open" | "settle" | "drop" => tell(out, &self.go_on(verb)?),
-            "stages" => self.tell_stages(out),
+            "group" => tell(out, &self.make_group(rest)?),
+            "ahead" => tell(out, &self.lay_ahead(rest)?),
+            "settle" | "rest" => tell(out, &self.go_on(verb)?),
             "checkpoint" => tell(out, &self.checkpoint(rest)?),
             "state" => self.tell_state(out),
             "found" => tell(out, &records_of(self.alloc, self.recorder.take()?)?),
@@ -182,18 +181,13 @@ impl Bench {
         Some(read)
     }
 
-    // Makes three together, or lays them.
-    fn make_group(&mut self, verb: &str, kinds: &str) -> Option<Result<(), GroupError>> {
+    // Makes three together.
+    fn make_group(&mut self, kinds: &str) -> Option<Result<(), GroupError>> {
         let read = self.read_all(kinds)?;
         let Some(recorder) = &mut self.recorder else {
             return None;
         };
         match read.as_slice() {
-            [first, second, third] if verb == "lay" => Some(recorder.lay_three(
-                saying_of(first),
-                saying_of(second),
-                saying_of(third),
-            )),
             [first, second, third] => Some(recorder.record_three(
                 saying_of(first),
                 saying_of(second),
@@ -203,29 +197,31 @@ impl Bench {
         }
     }
 
-    // Opens those that were laid, settles, or gives them up.
+    // Whether three lie ahead.
+    fn lay_ahead(&mut self, kinds: &str) -> Option<Result<bool, DeviceFailed>> {
+        let read = self.read_all(kinds)?;
+        let Some(recorder) = &mut self.recorder else {
+            return None;
+        };
+        match read.as_slice() {
+            [first, second, third] => Some(recorder.lay_three(
+                saying_of(first),
+                saying_of(second),
+                saying_of(third),
+            )),
+            _ => None,
+        }
+    }
+
+    // Settles, or comes to rest.
     fn go_on(&mut self, verb: &str) -> Option<Result<(), DeviceFailed>> {
         let Some(recorder) = &mut self.recorder else {
             return None;
         };
         match verb {
-            "open" => Some(recorder.open_laid()),
             "settle" => Some(recorder.settle()),
-            _ => {
-                recorder.drop_laid();
-                Some(Ok(()))
-            }
+            _ => Some(recorder.rest()),
         }
-    }
-
-    // What is on its way, and what is left behind it.
-    fn tell_stages(&self, out: &mut String) -> Option<()> {
-        let Some(keeper) = &self.recorder else {
-            return None;
-        };
-        let staged = keeper.recorder().staged();
-        let (gated, laid, room) = (staged.gated(), staged.laid(), staged.room());
-        writeln!(out, "  gated {gated}, laid {laid}, room {room}").ok()
     }
 
     fn checkpoint(&mut self, held: &str) -> Option<Result<(), CheckpointError>> {

@@ -4,8 +4,7 @@
 ghost use Rattle.std.specs.Prelude.{◌≡◌, ◌≤◌, IsTrue, length, false};
 ghost use Rattle.drda_disk.specs.Region.{end_of};
 ghost use Rattle.unit_journal.specs.Journal.{held_of, region_of};
-ghost use Rattle.unit_journal.specs.Staged.{IsAtRest, MayOpen, laid_of};
-ghost use Rattle.journal_recorder.specs.Recording.{disk_of, has_failed, journal_of, staged_of};
+ghost use Rattle.journal_recorder.specs.Recording.{disk_of, has_failed, journal_of};
 
 use crate::records::released_by;
 use ahead_view::{ReadError, Source};
@@ -36,49 +35,13 @@ impl<D: Disk> Model for Keeper<D> {
     ghost invariant = { λ k. HasPages D.is_modelled D.life k.recorder k.tables.tables };
 }
 
-// Whether records that release so much may be laid.
-fn may_lay<D: Disk>(recorder: &DiskRecorder<D>, release: usize) -> bool
-    ensures going { IsTrue result → has_failed recorder.now ≡ false }
-    ensures none_laid { IsTrue result → laid_of (staged_of recorder.now) ≡ 0 }
-    ensures inside { IsTrue result → end_of (region_of (journal_of recorder.now)) ≤ length (D.life (disk_of recorder.now)).seen }
-    ensures released { IsTrue result → release ≤ held_of (journal_of recorder.now) }
-{
-    !recorder.is_failed()
-        && recorder.staged().laid() == 0
-        && recorder.region().end() <= recorder.disk().size()
-        && release <= recorder.held()
-}
-
-// Whether those that were laid may be opened.
-fn may_open<D: Disk>(recorder: &DiskRecorder<D>) -> bool
-    ensures going { IsTrue result → has_failed recorder.now ≡ false }
-    ensures may { IsTrue result → MayOpen (length (D.life (disk_of recorder.now)).seen) (staged_of recorder.now) }
-{
-    !recorder.is_failed()
-        && recorder.staged().laid() > 0
-        && recorder.staged().gated() == 0
-        && recorder.staged().is_settled()
-        && recorder.region().end() <= recorder.disk().size()
-}
-
-// Whether none are on their way.
-fn is_at_rest<D: Disk>(recorder: &DiskRecorder<D>) -> bool
-    ensures { IsTrue result → IsAtRest (staged_of recorder.now) }
-{
-    recorder.staged().gated() == 0
-        && recorder.staged().laid() == 0
-        && recorder.staged().is_settled()
-}
-
 // Whether a record that releases so much may be asked for.
 fn may_record<D: Disk>(recorder: &DiskRecorder<D>, release: usize) -> bool
     ensures going { IsTrue result → has_failed recorder.now ≡ false }
-    ensures rest { IsTrue result → IsAtRest (staged_of recorder.now) }
     ensures inside { IsTrue result → end_of (region_of (journal_of recorder.now)) ≤ length (D.life (disk_of recorder.now)).seen }
     ensures released { IsTrue result → release ≤ held_of (journal_of recorder.now) }
 {
     !recorder.is_failed()
-        && is_at_rest(recorder)
         && recorder.region().end() <= recorder.disk().size()
         && release <= recorder.held()
 }
@@ -137,36 +100,23 @@ impl<D: Disk> Keeper<D> {
         }
     }
 
-    /// Lays these, to be opened at once.
+    /// Lays these ahead of being made together: whether they lie there then.
     pub fn lay_three(
         &mut self,
         first: RecordContents<'_>,
         second: RecordContents<'_>,
         third: RecordContents<'_>,
-    ) -> Result<(), GroupError> {
+    ) -> Result<bool, DeviceFailed> {
         pages_are_kept::<D>();
         let layout = self.recorder.layout();
         let release = released_by(layout, first)
             + released_by(layout, second)
             + released_by(layout, third);
-        if !may_lay(&self.recorder, release) {
-            return Err(GroupError::Refused);
-        }
-        match self.recorder.lay_all(&[first, second, third]) {
-            Ok(()) => Ok(()),
-            Err(GroupError::Refused) => Err(GroupError::Refused),
-            Err(GroupError::DeviceFailed) => Err(GroupError::DeviceFailed),
-        }
-    }
-
-    /// Opens those that were laid.
-    pub fn open_laid(&mut self) -> Result<(), DeviceFailed> {
-        pages_are_kept::<D>();
-        if !may_open(&self.recorder) {
+        if !may_record(&self.recorder, release) {
             return Err(DeviceFailed);
         }
-        match self.recorder.open_laid() {
-            Ok(()) => Ok(()),
+        match self.recorder.lay_ahead(&[first, second, third]) {
+            Ok(lie) => Ok(lie),
             Err(DeviceFailed) => Err(DeviceFailed),
         }
     }
@@ -184,18 +134,29 @@ impl<D: Disk> Keeper<D> {
         }
     }
 
-    /// Gives up those that were laid.
-    pub fn drop_laid(&mut self) {
+    /// Gives up what was laid, and settles.
+    pub fn rest(&mut self) -> Result<(), DeviceFailed> {
         pages_are_kept::<D>();
-        self.recorder.drop_laid();
+        if self.recorder.is_failed() {
+            return Err(DeviceFailed);
+        }
+        match self.recorder.rest() {
+            Ok(()) => Ok(()),
+            Err(DeviceFailed) => Err(DeviceFailed),
+        }
     }
 
-    /// A checkpoint with no records, that holds so many bytes back.
+    /// A checkpoint with no records, that holds so many bytes back, of a journal at rest.
     pub fn checkpoint(&mut self, held: usize) -> Result<(), CheckpointError>
         requires { D.is_modelled ≡ false }
     {
+        pages_are_kept::<D>();
         if !may_record(&self.recorder, 0) {
             return Err(CheckpointError::NoMemory);
+        }
+        match self.recorder.rest() {
+            Ok(()) => {}
+            Err(DeviceFailed) => return Err(CheckpointError::DeviceFailed),
         }
         self.recorder.checkpoint(&mut self.tables, &[], held)
     }

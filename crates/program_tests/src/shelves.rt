@@ -4,7 +4,7 @@ use drda_disk::{Disk, FileFault, FuseDisk, MemDisk};
 use drda_program::StoreFiles;
 use std::alloc::Global;
 use std::io::{self, ErrorKind};
-use test_bytes::{ACCRDB, ACCSEC, EXCSAT_ALONE, RDBCMM, SECCHK_ALONE, push_texts};
+use test_bytes::{ACCRDB, ACCSEC, EXCSAT_ALONE, RDBCMM, SECCHK_ALONE, push_texts, sentences};
 use test_nodes::{Node, fresh_store, node_of};
 
 const TWO_MIB: usize = 2_097_152;
@@ -24,9 +24,16 @@ const INSERT: [&str; 2] = [
     "2056414C55455320283129 FF",
 ];
 
+/// UPDATE T SET V = 'x..x' WHERE K = 1, with 600 letters.
+const UPDATE: &str = "000A D051 0006 0004 200A 0287 D003 0006 0281 2414 00 00000277
+    555044415445 20 54 20 534554 20 56 20 3D 20 27 78*600 27 20 5748455245 20 4B 20 3D 20 31 FF";
+
+/// So many of them take more than an eighth of a half of 1,040,384 bytes.
+const UPDATES: u64 = 250;
+
 /// Files by their names: `store` is a fresh store SHOP, `doubt` one over which a conversation has said what leaves units in doubt, `old` the same
-/// of layout 1, `crowded` the same of layout 1 with more tables than a half has pages, `zeros` none at all, and `damaged` one whose journal begins
-/// with a record of an unknown kind. The one that can be made is `new`. The private texts `login`, `line` and `carriage` hold a login, `lines`,
+/// of layout 1, `crowded` the same of layout 1 with more tables than a half has pages, `laden` one with so many records that a checkpoint is due,
+/// `zeros` none at all, and `damaged` one whose journal begins with a record of an unknown kind. The one that can be made is `new`. The private texts `login`, `line` and `carriage` hold a login, `lines`,
 /// `blank` and `colon` none.
 #[derive(Drop)]
 pub struct Shelf<'a> {
@@ -74,6 +81,7 @@ impl StoreFiles for Shelf<'_> {
             "doubt" => in_doubt(self.alloc, &[], self.doubtful),
             "old" => as_layout_1(in_doubt(self.alloc, &[], self.doubtful)),
             "crowded" => crowded(self.alloc, self.doubtful),
+            "laden" => laden(self.alloc),
             "zeros" => MemDisk::new(self.alloc, TWO_MIB).ok(),
             "damaged" => damaged(self.alloc),
             _ => None,
@@ -149,6 +157,17 @@ fn crowded(alloc: Global, doubtful: &[u8]) -> Option<MemDisk> {
     }
     push_texts(&mut said, &[RDBCMM]).ok()?;
     as_layout_1(in_doubt(alloc, &said, doubtful))
+}
+
+// A store with a row that was changed again and again, and no checkpoint since.
+fn laden(alloc: Global) -> Option<MemDisk> {
+    let mut said = Vec::new(alloc);
+    push_texts(&mut said, &[EXCSAT_ALONE, ACCSEC, SECCHK_ALONE, ACCRDB]).ok()?;
+    push_texts(&mut said, &[sentences::CREATE, sentences::INSERT]).ok()?;
+    for _ in 0..UPDATES {
+        push_texts(&mut said, &[UPDATE, RDBCMM]).ok()?;
+    }
+    in_doubt(alloc, &said, &[])
 }
 
 // Whether a node opens a conversation, which says these bytes.

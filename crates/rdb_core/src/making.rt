@@ -18,7 +18,7 @@ use crate::together::{is_prepare, owner_of};
 use std::alloc::{AllocError, Global};
 use tables::Change;
 use unit_records::laws::calls_go_together;
-use unit_records::{Asked, GroupCall, GroupError, Phase, RecordContents, Recorder};
+use unit_records::{Asked, DeviceFailed, GroupCall, GroupError, Phase, RecordContents, Recorder};
 use unit_statements::Base;
 use unit_table::{Owner, Units};
 use xa_calls::Xid;
@@ -50,6 +50,24 @@ impl<R: Recorder> Core<R> {
         finish_all(&mut self.base, self.alloc, calls, changes, recorded)?;
         settle_all(&mut self.branches, calls);
         Ok(())
+    }
+}
+
+impl<R: Recorder> Core<R> {
+    /// Lays the records of these calls ahead of being made together, as a hint: whether they lie there then. All is as it was.
+    /// Where memory is refused they do not.
+    pub fn lay_ahead(&mut self, calls: &[GroupCall]) -> Result<bool, DeviceFailed>
+        requires may { may_make (state_of self.old) calls.now ≡ true }
+        requires allowed { R.allows_all (recorder_of self.old) (records_of (state_of self.old).base.units calls.now) }
+        ensures laid { OnOk result (R.lays_ahead (recorder_of self.old) (recorder_of self.new)) }
+        ensures failed { OnErr result (R.fails_ahead (recorder_of self.old) (recorder_of self.new)) }
+        ensures state { state_of self.new ≡ state_of self.old }
+        ensures pages { pages_of self.new ≡ pages_of self.old }
+    {
+        match sayings_of(&self.base.units, self.alloc, calls) {
+            Ok(sayings) => self.recorder.lay_ahead(sayings.as_slice()),
+            Err(AllocError) => Ok(false),
+        }
     }
 }
 

@@ -8,7 +8,7 @@ use sql_text::{Command, SqlError, Statement, parse};
 use std::alloc::Global;
 use std::marker::Model;
 use unit_changes::UnitChanges;
-use unit_records::RecordError;
+use unit_records::{DeviceFailed, GroupCall, RecordError};
 use xa_calls::{InvalidRequest, Request, Xid};
 use xa_manager::{BranchState, Decision};
 
@@ -78,6 +78,18 @@ impl Bench {
     /// What a conversation is answered that makes an XA call.
     pub fn xa(&mut self, conversation: u64, request: &Result<Request, InvalidRequest>) -> Answer {
         self.core.xa(conversation, request)
+    }
+
+    /// Whether the records of these calls lie ahead, where they may be made together; and how many were laid last.
+    pub fn lay_ahead(
+        &mut self,
+        calls: &[GroupCall],
+    ) -> Option<(Result<bool, DeviceFailed>, usize)> {
+        if !self.core.may_make(calls) {
+            return None;
+        }
+        let laid = self.core.lay_ahead(calls);
+        Some((laid, self.core.recorder.laid))
     }
 
     /// The state, where it can be told.

@@ -21,11 +21,13 @@ pub enum Given {
     Cut,
 }
 
-/// Makes so many records, and refuses those that follow. Reads rows of tables without pages, counts the reads and
+/// Makes so many records, and refuses those that follow; lays none ahead while its fault is that of a device. Reads rows of tables without pages, counts the reads and
 /// those in which the device counts as failed, and refuses each while it has a fault.
 #[derive(Drop)]
 pub struct Few {
     pub left: u32,
+    /// How many were laid ahead last.
+    pub laid: usize,
     pub reads: u32,
     pub failures: u32,
     pub fault: Option<ReadError>,
@@ -37,6 +39,7 @@ impl Few {
     pub fn new(left: u32) -> Few {
         Few {
             left,
+            laid: 0,
             reads: 0,
             failures: 0,
             fault: None,
@@ -166,27 +169,17 @@ impl Recorder for Few {
         Ok(())
     }
 
-    ghost allows_lay = { λ _ _. Unit {0} };
+    ghost lays_ahead = { λ _ _. Unit {0} };
 
-    ghost lays = { λ _ _ _. Unit {0} };
+    ghost fails_ahead = { λ _ _. Unit {0} };
 
-    ghost fails_to_lay = { λ _ _ _. Unit {0} };
-
-    fn lay_all(&mut self, _sayings: &[RecordContents<'_>]) -> Result<(), GroupError> {
-        Err(GroupError::Refused)
+    fn lay_ahead(&mut self, sayings: &[RecordContents<'_>]) -> Result<bool, DeviceFailed> {
+        if self.fault == Some(ReadError::DeviceFailed) {
+            return Err(DeviceFailed);
+        }
+        self.laid = sayings.len();
+        Ok(sayings.len() <= self.left as usize)
     }
 
-    ghost allows_open = { λ _. Unit {0} };
-
-    ghost opens = { λ _ _. Unit {0} };
-
-    ghost fails_to_open = { λ _ _. Unit {0} };
-
-    fn open_laid(&mut self) -> Result<(), DeviceFailed> {
-        Ok(())
-    }
-
-    ghost drops = { λ _ _. Unit {0} };
-
-    fn drop_laid(&mut self) {}
+    ghost lays_none = { λ _. tt };
 }

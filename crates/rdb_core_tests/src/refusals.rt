@@ -1,10 +1,12 @@
 //! Records that are refused.
 
 use crate::bench::Bench;
-use crate::fixtures::{CREATE, INSERT};
+use crate::fixtures::{CREATE, INSERT, rows_for};
+use ahead_view::ReadError;
 use core_calls::Answer;
 use std::alloc::Global;
 use std::test::Fail;
+use unit_records::{Asked, DeviceFailed, GroupCall};
 
 // Whether a row is put, its commit has no room, the row is there still, and it is rolled back.
 fn is_kept(alloc: Global, bench: &mut Bench) -> bool {
@@ -33,6 +35,53 @@ fn keeps_the_unit_where_its_record_is_refused(rt: HostRuntime) -> Result<(), Fai
     drop(bench);
     assert!(rt; created && committed);
     assert!(rt; kept == [true, true]);
+    assert_eq!(rt; left, 0);
+    Ok(())
+}
+
+// Commits of two conversations.
+fn commits() -> [GroupCall; 2] {
+    [
+        GroupCall {
+            conversation: 1,
+            asked: Asked::Commit,
+        },
+        GroupCall {
+            conversation: 2,
+            asked: Asked::Commit,
+        },
+    ]
+}
+
+// A group is laid ahead where its calls may be made together, and all is as it was: each commits alone then, with a record.
+#[test]
+fn lays_a_group_ahead(rt: HostRuntime) -> Result<(), Fail> {
+    let mut bench = Bench::new(rt.alloc(), 2);
+    let commits = commits();
+    let none = bench.lay_ahead(&commits);
+    let created = rows_for(rt.alloc(), &mut bench, 1, CREATE);
+    let other = rows_for(
+        rt.alloc(),
+        &mut bench,
+        2,
+        "CREATE TABLE U (K INTEGER NOT NULL, PRIMARY KEY (K))",
+    );
+    let laid = bench.lay_ahead(&commits);
+    bench.refuse_reads(Some(ReadError::DeviceFailed));
+    let failed = bench.lay_ahead(&commits);
+    bench.refuse_reads(None);
+    bench.begin_anew(1);
+    let wide = bench.lay_ahead(&commits);
+    let committed = matches!(bench.commit(1), Answer::Done);
+    let alone = bench.lay_ahead(&commits);
+    let left = bench.counts()[0];
+    drop(bench);
+    assert!(rt; none.is_none() && alone.is_none());
+    assert!(rt; created == Some(0) && other == Some(0));
+    assert!(rt; laid == Some((Ok(true), 2)));
+    assert!(rt; failed == Some((Err(DeviceFailed), 2)));
+    assert!(rt; wide == Some((Ok(false), 2)));
+    assert!(rt; committed);
     assert_eq!(rt; left, 0);
     Ok(())
 }

@@ -144,17 +144,14 @@ pub made_nothing : (m : MadeRecords) → m ≡ with_begun (with_done m []) []
 made_nothing m = λ i. record { done = sym (append-nil m.done) i; begun = sym (append-nil m.begun) i }
 
 made_none : (s : Shown) → IsDurable s → Made [] [] s s
-made_none s durable =
-    let opens : (c : List ℕ) → Now s.disk c → OpensTo s.name (durable_part s.state) c
-    = λ c now. subst (λ (l : List ℕ). OpensTo s.name (durable_part s.state) l) (sym (durable.only c now)) durable.opens in
-    record {
-      moments = no_call s.disk _ (λ c now. record { count = 0; state = durable_part s.state; leads = refl; opens = opens c now });
-      left = λ c now. inl (record { state = durable_part s.state; leads = refl; opens = opens c now });
-      state = refl;
-      good = tt;
-      made = made_nothing s.made;
-      settled = λ still. refl;
-    }
+made_none s durable = record {
+  moments = no_call s.disk _ (λ c now. record { count = 0; state = durable_part s.state; leads = refl; opens = durable.opens c now });
+  left = λ c now. inl (record { state = durable_part s.state; leads = refl; opens = durable.opens c now });
+  state = refl;
+  good = tt;
+  made = made_nothing s.made;
+  settled = λ still. refl;
+}
 
 -- ---- calls
 

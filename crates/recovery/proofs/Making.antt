@@ -27,10 +27,6 @@ opens_here name d gs c opens = record { count = 0; state = d; leads = refl; open
 opens_behind : (name : List ℕ) (d e : Durable) (gs : List (List UnitRecord)) (c : List ℕ) → replayed_from d (all_in gs) ≡ Some e → OpensTo name e c → OpensAfterSome name d gs c
 opens_behind name d e gs c steps opens = record { count = length gs; state = e; leads = ap (λ (l : List (List UnitRecord)). replayed_from d (all_in l)) (take_all (length gs) gs (omega arith)) ∙ steps; opens = opens }
 
--- what is durable of a core is what each image opens to
-only_opens : (s : Shown) → IsDurable s → (c : List ℕ) → Now s.disk c → OpensTo s.name (durable_part s.state) c
-only_opens s durable c now = subst (λ (l : List ℕ). OpensTo s.name (durable_part s.state) l) (sym (durable.only c now)) durable.opens
-
 -- a group was made, and nothing is begun
 done_alone : (m : MadeRecords) (groups : List (List Entry)) → with_done m groups ≡ with_begun (with_done m groups) []
 done_alone m groups = λ i. record { done = m.done ++ groups; begun = sym (append-nil m.begun) i }
@@ -40,6 +36,28 @@ begun_alone : (m : MadeRecords) (groups : List (List Entry)) → with_begun m gr
 begun_alone m groups = λ i. record { done = sym (append-nil m.done) i; begun = m.begun ++ groups }
 
 module _ (opened : GroupsOpen) where
+  -- an image that holds these records, and no others behind them, opens to what they lead to
+  opens_beside : (name : List ℕ) (layout : Layout) (region : Region) (es : List Entry) (d : Durable) (seen c : List ℕ)
+      → Holds name layout region es d seen → IsBeforeOrAfterAll region seen es [] c → OpensTo name d c
+  opens_beside name layout region es d seen c holds there = either (opened name layout region es d d [] seen c holds tt tt refl (omega (arith, holds.room)) there)
+    where
+      either : Holds name layout region es d c ⊎ Holds name layout region (es ++ []) d c → OpensTo name d c
+      either (inl before) = (layout, region, es, before)
+      either (inr after) = (layout, region, es ++ [], after)
+
+  made_ahead : (old new : Shown) (layout : Layout) (region : Region) (es : List Entry) → Holds old.name layout region es (durable_part old.state) old.disk.seen
+      → LeavesOnly old.disk new.disk (IsBeforeOrAfterAll region old.disk.seen es []) → durable_part new.state ≡ durable_part old.state → new.made ≡ old.made → Made [] [] old new
+  made_ahead old new layout region es holds run same made =
+      let opens : (c : List ℕ) → IsBeforeOrAfterAll region old.disk.seen es [] c → OpensTo old.name (durable_part old.state) c = λ c. opens_beside old.name layout region es (durable_part old.state) old.disk.seen c holds in
+      record {
+        moments = weaker old.disk new.disk _ _ run (λ c there. opens_here old.name (durable_part old.state) [] c (opens c there));
+        left = λ c now. inl (record { state = durable_part old.state; leads = refl; opens = opens c (run.now c now) });
+        state = ap Some (sym same);
+        good = tt;
+        made = made ∙ made_nothing old.made;
+        settled = λ still. refl;
+      }
+
   module _ (old new : Shown) (layout : Layout) (region : Region) (es : List Entry) (rs : List UnitRecord) (e : Durable)
       (was : Holds old.name layout region es (durable_part old.state) old.disk.seen) (good : AllByRecursion IsGood rs) (known : AllByRecursion (IsKnown layout) rs) (steps : replayed_from (durable_part old.state) rs ≡ Some e)
       (room : length (laid es) + taken_by rs + 1 + held_for layout e.doubts ≤ region.length)
@@ -66,7 +84,7 @@ module _ (opened : GroupsOpen) where
         let to_new : replayed_from (durable_part old.state) (all_in (rs ∷ [])) ≡ Some (durable_part new.state) = lead ∙ ap Some (sym state) in
         record {
           moments = weaker old.disk new.disk _ _ run some_at;
-          left = λ c now. inl (record { state = durable_part new.state; leads = to_new; opens = subst (λ (n : List ℕ). OpensTo n (durable_part new.state) c) name (only_opens new durable c now) });
+          left = λ c now. inl (record { state = durable_part new.state; leads = to_new; opens = subst (λ (n : List ℕ). OpensTo n (durable_part new.state) c) name (durable.opens c now) });
           state = to_new;
           good = (good, tt);
           made = made ∙ done_alone old.made (map entry_of rs ∷ []);
@@ -97,23 +115,24 @@ module _ (opened : GroupsOpen) where
 
 made_silent : (old new : Shown) → IsDurable old → Stays old.disk new.disk → durable_part new.state ≡ durable_part old.state → new.made ≡ old.made → Made [] [] old new
 made_silent old new durable stays same made = record {
-  moments = stays_leaves old.disk new.disk _ stays (λ c now. opens_here old.name (durable_part old.state) [] c (only_opens old durable c now));
-  left = λ c now. inl (record { state = durable_part old.state; leads = refl; opens = only_opens old durable c (stays.no_more c now) });
+  moments = stays_leaves old.disk new.disk _ stays (λ c now. opens_here old.name (durable_part old.state) [] c (durable.opens c now));
+  left = λ c now. inl (record { state = durable_part old.state; leads = refl; opens = durable.opens c (stays.no_more c now) });
   state = ap Some (sym same);
   good = tt;
   made = made ∙ made_nothing old.made;
   settled = λ still. refl;
 }
 
-pub one_call_is_made : {D : Type 0} (life : D → Life) → OneGroupIsMade life → OneCallIsMade life
-one_call_is_made {D} life group = record {
-  durable = λ s layout region es only holds settled. record { only = only; opens = (layout, region, es, holds); settled = settled };
+pub one_call_is_made : {D : Type 0} (life : D → Life) → GroupsOpen → OneGroupIsMade life → OneCallIsMade life
+one_call_is_made {D} life opened group = record {
+  durable = λ s layout region es holds left settled. record { opens = λ c now. opens_beside opened s.name layout region es (durable_part s.state) (life s.disk).seen c holds (left c now); settled = settled };
   recorded = λ old new layout region es r was good known step room run name durable made.
       group.made old new layout region es (r ∷ []) was (good, tt) (known, tt) (one_step (durable_part old.state) (durable_part new.state) r step) (omega (arith, room)) run name durable made;
   begun = λ old new layout region es r e was good known step room run same failed made.
       group.begun old new layout region es (r ∷ []) e was (good, tt) (known, tt) (one_step (durable_part old.state) e r step) (omega (arith, room)) run same failed made;
   silent = λ old new. made_silent (shown_on life old) (shown_on life new);
+  laid_ahead = λ old new. made_ahead opened (shown_on life old) (shown_on life new);
   failed = λ old new failed same. subst (λ (n : OnDisk D). StaysFailed (shown_on life old) (shown_on life n)) (sym same) (record { failed = failed; name = refl; state = refl; disk = untouched (life old.disk); layout = refl; made = refl });
   unchanged = λ old new same. subst (λ (n : OnDisk D). IsUnchanged (shown_on life old) (shown_on life n)) (sym same) (unchanged (shown_on life old));
-  read_only = λ old new stays only. stays_leaves (life old) (life new) _ stays only;
+  read_only = λ old new stays. stays_leaves (life old) (life new) _ stays (λ c now. now);
 }

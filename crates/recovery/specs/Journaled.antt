@@ -2,7 +2,7 @@
 -- made or began; and once they have returned, after all that they made, or with it all that was begun where the device failed.
 use Rattle.std.specs.Prelude.{◌≡◌, ◌⊎◌, ℕ, ◌+◌, ◌≤◌, Bool, true, false, IsTrue, List, [], ◌∷◌, ◌++◌, length, take, Some, map, if◌then◌else◌}
 use Rattle.std.specs.List.{AllByRecursion}
-use Rattle.drda_disk.specs.Disk.{LeavesOnly, Life, Now, Only, Stays}
+use Rattle.drda_disk.specs.Disk.{LeavesOnly, Life, Now, Stays}
 use Rattle.drda_disk.specs.declared.region.Region.{Region}
 use Rattle.unit_journal.specs.Record.{Entry, laid}
 use Rattle.unit_journal.specs.Stands.{IsBeforeOrAfter, IsBeforeOrAfterAll}
@@ -53,11 +53,9 @@ pub record OpensAfter (name : List ℕ) (d : Durable) (groups : List (List UnitR
 abbrev pub OpensAfterAll : List ℕ → Durable → List (List UnitRecord) → List (List UnitRecord) → List ℕ → Type 0
 OpensAfterAll name d made begun image = OpensAfter name d made image ⊎ OpensAfter name d (made ++ begun) image
 
--- While the device has not failed, what is read is the one image that a crash leaves, it opens to what is durable of the core,
--- and nothing is begun.
+-- While the device has not failed, each image that a crash leaves opens to what is durable of the core, and nothing is begun.
 pub record IsDurable (s : Shown) : Type 0 where
-  pub only : Only s.disk
-  pub opens : OpensTo s.name (durable_part s.state) s.disk.seen
+  pub opens : (image : List ℕ) → Now s.disk image → OpensTo s.name (durable_part s.state) image
   pub settled : s.made.begun ≡ []
 
 -- a device that need not give back what was written gave something else than a page: the core has failed, and no device call
@@ -173,8 +171,9 @@ module _ {D : Type 0} (life : D → Life) where
 
   -- What is read holds what is durable of a core.
   pub record OneCallIsMade : Type 0 where
-    -- so the core is durable, where a crash leaves nothing else
-    pub durable : (s : OnDisk D) (layout : Layout) (region : Region) (es : List Entry) → Only (life s.disk) → Holds s.name layout region es (durable_part s.state) (life s.disk).seen → s.made.begun ≡ [] → IsDurable (shown_on s)
+    -- so the core is durable, where a crash leaves these records and no others
+    pub durable : (s : OnDisk D) (layout : Layout) (region : Region) (es : List Entry) → Holds s.name layout region es (durable_part s.state) (life s.disk).seen
+        → ((image : List ℕ) → Now (life s.disk) image → IsBeforeOrAfterAll region (life s.disk).seen es [] image) → s.made.begun ≡ [] → IsDurable (shown_on s)
     -- a call that makes a record
     pub recorded : (old new : OnDisk D) (layout : Layout) (region : Region) (es : List Entry) (r : UnitRecord)
         → Holds old.name layout region es (durable_part old.state) (life old.disk).seen → IsGood r → IsKnown layout r → next (durable_part old.state) r ≡ Some (durable_part new.state)
@@ -193,11 +192,17 @@ module _ {D : Type 0} (life : D → Life) where
     pub silent : (old new : OnDisk D) → IsDurable (shown_on old) → Stays (life old.disk) (life new.disk)
         → durable_part new.state ≡ durable_part old.state → new.made ≡ old.made
         → Made [] [] (shown_on old) (shown_on new)
+    -- a call that writes behind the records alone, though the device may fail in it
+    pub laid_ahead : (old new : OnDisk D) (layout : Layout) (region : Region) (es : List Entry)
+        → Holds old.name layout region es (durable_part old.state) (life old.disk).seen
+        → LeavesOnly (life old.disk) (life new.disk) (IsBeforeOrAfterAll region (life old.disk).seen es [])
+        → durable_part new.state ≡ durable_part old.state → new.made ≡ old.made
+        → Made [] [] (shown_on old) (shown_on new)
     -- a call that changes nothing, of a core that has failed or of any
     pub failed : (old new : OnDisk D) → old.is_failed ≡ true → new ≡ old → StaysFailed (shown_on old) (shown_on new)
     pub unchanged : (old new : OnDisk D) → new ≡ old → IsUnchanged (shown_on old) (shown_on new)
     -- what is only read is left
-    pub read_only : (old new : D) → Stays (life old) (life new) → Only (life old) → LeavesOnly (life old) (life new) (λ c. c ≡ (life old).seen)
+    pub read_only : (old new : D) → Stays (life old) (life new) → LeavesOnly (life old) (life new) (Now (life old))
 
   -- Each image that a crash leaves now has what was answered: it opens to all that is durable of the core; or, where the device
   -- has failed, to what all that was begun then leads to from there.

@@ -1,5 +1,5 @@
 -- Rows are laid into pages in one way.
-use Rattle.std.proofs.Common.{◌≡◌, ℕ, ◌+◌, List, [], ◌∷◌, ◌++◌, length, Bool, true, false, refl, sym, ap, subst, ◌∙◌, arith, append_assoc, append-nil, length-append}
+use Rattle.std.proofs.Common.{◌≡◌, ℕ, ◌+◌, ◌<◌, List, [], ◌∷◌, ◌++◌, length, Bool, true, false, refl, sym, ap, subst, ◌∙◌, arith, append_assoc, append-nil, length-append}
 use Rattle.std.specs.Prelude.{nat_le, if◌then◌else◌}
 use Rattle.std.specs.List.{AllByRecursion}
 use Rattle.std.proofs.lemmas.Bool.{le-leb, leb-true}
@@ -95,6 +95,28 @@ turn (r ∷ page) [] some ends first = refl
 turn (r ∷ page) (row ∷ rows) some ends first =
     ap (λ b. if b then laid_behind ((r ∷ page) ++ row ∷ []) rows else (r ∷ page) ∷ laid_behind (row ∷ []) rows) (not_fit ((r ∷ page) ++ row ∷ []) ends)
     ∙ ap (λ (x : List (List (List ℕ))). (r ∷ page) ∷ x) (sym (go_on [] row rows first))
+
+-- rows that stand in one page, laid behind a page that could not take the first of them, are a page that goes on to be filled
+pub page_behind : (page : List (List ℕ)) (row : List ℕ) (rows rest : List (List ℕ)) → HasSome page → (Fits (page ++ row ∷ []) → ⊥) → Fits (row ∷ rows) → laid_behind page ((row ∷ rows) ++ rest) ≡ page ∷ laid_behind (row ∷ rows) rest
+page_behind page row rows rest some ends fit =
+    turn page ((row ∷ rows) ++ rest) some ends (fewer (row ∷ []) rows fit)
+    ∙ ap (λ (x : List (List (List ℕ))). page ∷ x) (fill [] (row ∷ rows) rest fit)
+
+-- and so they are behind no page
+pub page_alone : (rows rest : List (List ℕ)) → Fits rows → laid_behind [] (rows ++ rest) ≡ laid_behind rows rest
+page_alone rows rest fit = fill [] rows rest fit
+
+-- a row that takes more than what a page has left does not fit
+pub no_room : (page : List (List ℕ)) (row : List ℕ) (room : ℕ) → 3 + length (rows_bytes page) + room ≡ 8192 → room < 2 + length row → Fits (page ++ row ∷ []) → ⊥
+no_room page row room left more fit = absurd (omega (arith, left, more, fit, size_more page row))
+
+-- each of rows that stand in one page is short
+pub all_short : (rows : List (List ℕ)) → Fits rows → AllByRecursion IsShort rows
+all_short [] fit = tt
+all_short (row ∷ rows) fit =
+    let one : length (row_bytes row) ≡ 2 + length row = omega arith in
+    let all = length-append (row_bytes row) (rows_bytes rows) in
+    (omega (arith, fit, all, one), all_short rows (omega (arith, fit, all, one)))
 
 pub filled_is_laid : (pages : List (List (List ℕ))) → AreFilled pages → pages ≡ laid (rows_over pages)
 filled_is_laid [] all = refl

@@ -5,5 +5,6 @@ mod Growing
 pub mod LaidPages
 mod KeptPages
 mod Placed
+mod Refilled
 pub mod Comparing
 pub mod Rising

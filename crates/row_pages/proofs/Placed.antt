@@ -1,16 +1,17 @@
 -- The places where rows begin.
-use Rattle.std.proofs.Common.{◌≡◌, ℕ, zero, suc, ◌+◌, ◌-◌, ◌<◌, ◌≤◌, List, [], ◌∷◌, length, drop, get_or, Bool, true, false, ◌&&◌, ◌==◌, Option, Some, None, refl, sym, ap, subst, ◌∙◌, arith, if◌then◌else◌}
+use Rattle.std.proofs.Common.{◌≡◌, ℕ, zero, suc, ◌+◌, ◌-◌, ◌<◌, ◌≤◌, List, [], ◌∷◌, length, take, drop, get_or, Bool, true, false, ◌&&◌, ◌==◌, Option, Some, None, refl, sym, ap, subst, ◌∙◌, arith, if◌then◌else◌, length-append}
 use Rattle.std.specs.Prelude.{IfSome}
 use Rattle.std.specs.List.{list_all, slice_get}
-use Rattle.std.proofs.lemmas.List.{drop-drop, length-drop}
+use Rattle.std.proofs.lemmas.List.{drop-drop, length-drop, take-append-drop}
 use Rattle.drda_words.specs.Bytes.{AreBytes}
-use Rattle.row_pages.specs.Page.{IsPage, Page}
+use Rattle.drda_words.proofs.Bytes.{rest_are_bytes}
+use Rattle.row_pages.specs.Page.{IsPage, Page, rows_bytes}
 use Rattle.row_pages.specs.Reading.{row_at, has_rows, has_behind, with_first, rows_in, behind_rows, row_starts, start_before}
 use Rattle.row_pages.specs.Parsing.{HasHead, page_at}
-use Rattle.row_pages.specs.Keeping.{KeepsStarts, page_with}
+use Rattle.row_pages.specs.Keeping.{KeepsPage, KeepsStarts, page_with}
 use Rattle.row_pages.specs.Walk.{ArePlaced, EndsRow}
 use Rattle.row_pages.specs.declared.page.PageKind.{PageKind}
-use Rattle.row_pages.proofs.RowBytes.{row_cut}
+use Rattle.row_pages.proofs.RowBytes.{row_cut, rows_read}
 use Rattle.row_pages.proofs.PageBytes.{no_page_at, page_read}
 
 -- where a row ends
@@ -137,6 +138,28 @@ module _ (bytes starts : List ℕ) (kind : PageKind) (count end : ℕ) (head : H
   pub is_page : AreBytes bytes → ArePlaced count bytes starts end → list_all (λ x. x == 0) (drop end bytes) ≡ true → IsPage (page_with (kind, length starts) bytes) bytes
   is_page all placed zeros =
       subst (λ n. IsPage (page_with (kind, n) bytes) bytes) (sym (counted placed)) (page_read (page_with (kind, count) bytes) bytes all (page_if placed true zeros))
+
+  -- the last row ends where the bytes of all rows do
+  ends : AreBytes bytes → ArePlaced count bytes starts end → end ≡ 3 + length (rows_bytes (rows_in count (drop 3 bytes)))
+  ends all placed =
+      let was = rows_read count (drop 3 bytes) (rest_are_bytes (take 3 bytes) (drop 3 bytes) (subst AreBytes (sym (take-append-drop 3 bytes)) all)) placed.has in
+      omega (
+        arith,
+        long,
+        ap length was.same,
+        length-append (rows_bytes (rows_in count (drop 3 bytes))) (behind_rows count (drop 3 bytes)),
+        ap length placed.behind,
+        length-drop end bytes,
+        placed.within,
+        head.size,
+      )
+
+  pub keeps_page : AreBytes bytes → ArePlaced count bytes starts end → list_all (λ x. x == 0) (drop end bytes) ≡ true → KeepsPage kind starts bytes end
+  keeps_page all placed zeros = record {
+    places = keeps placed;
+    is = is_page all placed zeros;
+    ends = ends all placed ∙ ap (λ n. 3 + length (rows_bytes (rows_in n (drop 3 bytes)))) (sym (counted placed));
+  }
 
   pub is_none : ArePlaced count bytes starts end → list_all (λ x. x == 0) (drop end bytes) ≡ false → (page : Page) → IsPage page bytes → ⊥
   is_none placed zeros = no_page_at bytes (page_if placed false zeros)

@@ -3,7 +3,7 @@ use Rattle.std.specs.Prelude.{◌≡◌, ◌≤◌, ◌+◌, ℕ, List, length, 
 use Rattle.drda_words.specs.Place.{part}
 use Rattle.drda_disk.specs.declared.through.ReadFault.{ReadFault}
 use Rattle.drda_disk.specs.declared.through.ReadFault.TheVariants as read
-use Rattle.row_pages.specs.Page.{IsPage, Page}
+use Rattle.row_pages.specs.Page.{IsPage, Page, rows_bytes}
 use Rattle.row_pages.specs.Reading.{has_rows, rows_in, row_starts}
 use Rattle.row_pages.specs.declared.page.PageKind.{PageKind}
 use Rattle.row_pages.specs.declared.kept.PageFault.{PageFault}
@@ -27,6 +27,12 @@ page_with head bytes = record { kind = head.0; rows = rows_in head.1 (drop 3 byt
 abbrev pub Judges : List ℕ → Option (PageKind × ℕ) → Type 0
 Judges bytes None = (page : Page) → IsPage page bytes → ⊥
 Judges bytes (Some head) = IsPage (page_with head bytes) bytes × HoldsRows head.1 bytes
+
+-- bytes are the page of this kind with so many rows, which begin at these places, and the last of which ends here
+pub record KeepsPage (kind : PageKind) (starts bytes : List ℕ) (end : ℕ) : Type 0 where
+  pub places : KeepsStarts starts bytes
+  pub is : IsPage (page_with (kind, length starts) bytes) bytes
+  pub ends : end ≡ 3 + length (rows_bytes (rows_in (length starts) (drop 3 bytes)))
 
 -- the pages that are kept, by their places
 abbrev pub Kept : Type 0

@@ -1,10 +1,11 @@
 //! A page that is being filled.
 
 ghost use Rattle.std.specs.Prelude.{◌≡◌, ◌≤◌, ◌+◌, ◌-◌, ◌++◌, [], IfOk, OnErr, drop, length, replicate, vec_capacity};
-ghost use Rattle.row_pages.specs.Page.{IsPage};
+ghost use Rattle.row_pages.specs.Page.{Fits, IsPage, rows_bytes};
 ghost use Rattle.row_pages.specs.Filling.{Pushes};
 ghost use Rattle.row_pages.specs.Laying.{IsShort, Lays};
 
+use crate::kept::KeptPage;
 use crate::page::{HEADER_BYTES, PAGE_BYTES, PageKind};
 use std::alloc::{AllocError, Global};
 use std::marker::Model;
@@ -115,6 +116,25 @@ impl PageBuilder {
                 Ok(Some(full.finish()))
             }
         }
+    }
+
+    /// How many bytes the page has left. A row takes its own, and two for its length.
+    pub fn room(&self) -> usize
+        ensures { 3 + length (rows_bytes self.now.rows) + result ≡ 8192 }
+    {
+        PAGE_BYTES - self.bytes.len()
+    }
+
+    /// Goes on with a page that is there, in place of the one that is being filled, which is given out:
+    /// the rows of that page are those of this one then, and its kind stays. Takes no memory.
+    pub fn replace(&mut self, page: KeptPage) -> PageBuilder
+        ensures former { result ≡ self.old }
+        ensures page { self.new ≡ record { kind = self.old.kind; rows = page.rows } }
+        ensures fits { Fits page.rows }
+    {
+        let (count, bytes) = page.into_filled();
+        let kind = self.kind;
+        mem::replace(self, PageBuilder { kind, count, bytes })
     }
 
     /// The bytes of the page, 8,192 of them. Takes no memory.

@@ -1,11 +1,13 @@
 //! A page in memory of its own, judged when it was read.
 
-ghost use Rattle.std.specs.Prelude.{◌≡◌, ◌≤◌, ◌<◌, ◌+◌, IsTrue, IfOk, Some, length};
+ghost use Rattle.std.specs.Prelude.{◌≡◌, ◌≤◌, ◌<◌, ◌+◌, IsTrue, IfOk, Some, drop, length};
 ghost use Rattle.std.specs.List.{slice_get};
 ghost use Rattle.drda_words.specs.Place.{part};
 ghost use Rattle.drda_disk.specs.Disk.{Stays};
+ghost use Rattle.row_pages.specs.Filling.{IsFilled};
 ghost use Rattle.row_pages.specs.Page.{IsPage};
 ghost use Rattle.row_pages.specs.Parsing.{ParsesKept};
+ghost use Rattle.row_pages.specs.Reading.{rows_in};
 ghost use Rattle.row_pages.specs.Keeping.{CountsPageFault, TellsDamage};
 
 use crate::page::{HEADER_BYTES, PAGE_BYTES, PageKind, PageRef, head_of, is_zero};
@@ -41,24 +43,25 @@ impl From<ReadFault> for PageFault {
 }
 
 /// A page in memory of its own, whose bytes were judged when it was made, with the places where its
-/// rows begin. Contracts see it as its kind and its rows.
+/// rows begin and where the last one ends. Contracts see it as its kind and its rows.
 #[derive(Drop)]
 pub struct KeptPage {
     kind: PageKind,
     starts: Vec<u16>,
+    end: usize,
     bytes: Vec<u8>,
 }
 
 impl Model for KeptPage {
     ghost use Rattle.std.specs.Prelude.{length};
     ghost use Rattle.row_pages.specs.Page.{Page};
-    ghost use Rattle.row_pages.specs.Keeping.{KeepsStarts, page_with};
+    ghost use Rattle.row_pages.specs.Keeping.{KeepsPage, page_with};
 
     ghost Value = { Page };
 
     ghost view = { λ p. page_with (p.kind, length p.starts.items) p.bytes.items };
 
-    ghost invariant = { λ p. KeepsStarts p.starts.items p.bytes.items };
+    ghost invariant = { λ p. KeepsPage p.kind p.starts.items p.bytes.items p.end };
 }
 
 impl KeptPage {
@@ -79,6 +82,7 @@ impl KeptPage {
                     Ok(KeptPage {
                         kind,
                         starts,
+                        end,
                         bytes,
                     })
                 } else {
@@ -105,6 +109,22 @@ impl KeptPage {
             Some((row, _)) => row,
             None => unreachable!(),
         }
+    }
+
+    /// The number of its rows, and its bytes up to where the last one ends: a page that goes on to be
+    /// filled. Takes no memory.
+    pub(crate) fn into_filled(self) -> (usize, Vec<u8>)
+        ensures filled { IsFilled result.0 result.1 }
+        ensures rows { rows_in result.0 (drop 3 result.1.items) ≡ self.rows }
+    {
+        let KeptPage {
+            kind: _,
+            starts,
+            end,
+            mut bytes,
+        } = self;
+        bytes.truncate(end);
+        (starts.len(), bytes)
     }
 
     /// The page where it lies. Takes no memory.

@@ -1,8 +1,8 @@
 //! Pages that are read from a disk, and kept.
 
-use crate::pages::{filled, number};
+use crate::pages::{filled, number, tell_judged};
 use drda_disk::{Disk, FuseDisk, MemDisk};
-use row_pages::{KeptPage, PageFault, PageKind, Pager};
+use row_pages::{KeptPage, PageBuilder, PageFault, PageKind, Pager, Pushed, read_page};
 use std::alloc::{AllocError, Global};
 
 /// A disk that counts its calls, with the pages of it that are kept.
@@ -75,4 +75,48 @@ fn tell_kept(page: &KeptPage, out: &mut String) -> Result<(), AllocError> {
         out,
         "  {count} rows, {first} bytes, {place} found, {same} at their places"
     )
+}
+
+// Goes on with a page in place of one of a catalogue with a row of one byte, and pushes rows of these lengths behind its rows. Tells both
+// pages, how many bytes they had left, and how many rows were added.
+fn tell_replaced(
+    alloc: Global,
+    kept: KeptPage,
+    lengths: &str,
+    out: &mut String,
+) -> Result<(), AllocError> {
+    let mut page = PageBuilder::new(alloc, PageKind::Catalogue)?;
+    page.try_push(&[9]);
+    let before = page.room();
+    let former = page.replace(kept);
+    let after = page.room();
+    let mut added = 0_usize;
+    for word in lengths.split_ascii_whitespace() {
+        let row = vec![in alloc; 7_u8; number(word)]?;
+        if page.try_push(&row) == Pushed::Added {
+            added = added.wrapping_add(1);
+        }
+    }
+    writeln!(out, "  {before} bytes left, then {after}, {added} added")?;
+    tell_judged(&former.finish(), out)?;
+    tell_judged(&page.finish(), out)
+}
+
+/// Tells what the page at an offset is once rows of these lengths are pushed behind its rows.
+pub fn tell_refilled(
+    alloc: Global,
+    pager: &mut Counted,
+    asked: &str,
+    out: &mut String,
+) -> Result<(), AllocError> {
+    let (at, lengths) = asked.split_once(' ').unwrap_or((asked, ""));
+    let at = number(at);
+    if at > pager.size() || pager.size() - at < 8_192 {
+        return Ok(());
+    }
+    match read_page(alloc, pager, at) {
+        Ok(kept) => tell_replaced(alloc, kept, lengths, out),
+        Err(PageFault::NoMemory) => Err(AllocError),
+        Err(fault) => writeln!(out, "  {fault:?}"),
+    }
 }

@@ -7,7 +7,7 @@ mod kept;
 mod pages;
 
 use crate::judged::{tell_known, tell_marks, write_keys};
-use crate::kept::{Counted, tell_at, write_byte, write_page};
+use crate::kept::{Counted, tell_at, tell_refilled, write_byte, write_page};
 use crate::pages::{tell_bytes, tell_changed, tell_laid, tell_page};
 use drda_disk::{FuseDisk, MemDisk};
 use row_pages::{PageCache, Pager};
@@ -54,6 +54,7 @@ fn answer(
         "lay" => tell_laid(alloc, rest, out),
         "write" => write_page(alloc, pager, rest),
         "at" => tell_at(alloc, pager, rest, out),
+        "refill" => tell_refilled(alloc, pager, rest, out),
         "keys" => write_keys(alloc, pager, rest),
         "judged" => tell_marks(alloc, pager, rest, out),
         "known" => tell_known(alloc, pager, rest, out),

@@ -27,8 +27,8 @@ pub fn filled(
     Ok((page.finish(), added))
 }
 
-// Tells what page the bytes are, how many rows it has, and of how many bytes in all.
-fn tell_judged(bytes: &[u8], out: &mut String) -> Result<(), AllocError> {
+/// Tells what page the bytes are, how many rows it has, and of how many bytes in all.
+pub fn tell_judged(bytes: &[u8], out: &mut String) -> Result<(), AllocError> {
     let page = match PageRef::parse(bytes) {
         Ok(page) => page,
         Err(_) => return writeln!(out, "  no page"),

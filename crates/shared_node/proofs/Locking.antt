@@ -6,7 +6,7 @@ use Rattle.core_history.specs.declared.pass.Pass.{Pass}
 use Rattle.core_history.specs.Books.{IsKept, Told}
 use Rattle.core_history.specs.Passes.{Admits, HasNoLeave}
 use Rattle.shared_node.specs.declared.turn.Turn.{Turn}
-use Rattle.shared_node.specs.Locked.{Considers, GivesLeave, GivesNone, Retires, UnderLock}
+use Rattle.shared_node.specs.Locked.{Considers, GivesLeave, GivesNone, LaysAhead, Retires, UnderLock}
 use Rattle.shared_node.proofs.Remaining.{retires}
 
 module _ {D : Type 0} (modelled : Bool) (life : D → Life) (origin : OnDisk D → Type 0) (found left : Told D) (of : origin found.opening) (was : IsKept modelled life found) (now : IsKept modelled life left)
@@ -26,3 +26,6 @@ module _ {D : Type 0} (modelled : Bool) (life : D → Life) (origin : OnDisk D �
 
   pub considers : (turn : Turn) → Considers turn found left → UnderLock modelled life origin (Considers turn)
   considers turn c = under (Considers turn) (ap (λ (t : Told D). t.opening) c.rest) c
+
+  pub lays_ahead : LaysAhead found left → UnderLock modelled life origin LaysAhead
+  lays_ahead l = under LaysAhead (ap (λ (t : Told D). t.opening) l.rest) l

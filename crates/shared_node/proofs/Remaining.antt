@@ -23,7 +23,7 @@ use Rattle.core_history.proofs.Counting.{get_set}
 use Rattle.core_history.proofs.Leaving.{by_its, get_behind, get_in_front, length_by}
 use Rattle.shared_node.specs.declared.turn.Turn.{Turn}
 use Rattle.shared_node.specs.Desks.{DeskAsks, ShowsNothing, answer_told}
-use Rattle.shared_node.specs.Locked.{Considers, GivesLeave, Retires, UnderLock}
+use Rattle.shared_node.specs.Locked.{Considers, GivesLeave, LaysAhead, Retires, UnderLock}
 use Rattle.shared_node.specs.Lasting.{AnswerLasts, AnswerStands, AnswersAreDurable, IsLater, IsListedAs, TurnsGoOn}
 use Rattle.shared_node.specs.Turns.{IsCollected, TakesTurn}
 
@@ -50,6 +50,7 @@ module _ {D : Type 0} where
     asked = λ pass after call acted found left t. record { more = t.together ++ t.its; calls = t.goes_on.calls; opening = t.goes_on.opening };
     retired = retires;
     rested = λ turn found left c. no_more found left (ap (λ (t : Told D). t.calls) c.rest) (ap (λ (t : Told D). t.opening) c.rest);
+    laid = λ found left l. no_more found left (ap (λ (t : Told D). t.calls) l.rest) (ap (λ (t : Told D). t.opening) l.rest);
     both = later_on;
   }
 

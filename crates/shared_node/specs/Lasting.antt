@@ -14,7 +14,7 @@ use Rattle.core_history.specs.Lasting.{Lasts}
 use Rattle.core_history.specs.LeftAnswers.{calls_by}
 use Rattle.shared_node.specs.declared.turn.Turn.{Turn}
 use Rattle.shared_node.specs.Desks.{DeskAsks, ShowsNothing}
-use Rattle.shared_node.specs.Locked.{Considers, GivesLeave, Retires, UnderLock}
+use Rattle.shared_node.specs.Locked.{Considers, GivesLeave, LaysAhead, Retires, UnderLock}
 use Rattle.shared_node.specs.Turns.{TakesTurn}
 
 -- ---- a book from one turn at the lock to a later one
@@ -31,6 +31,7 @@ pub record TurnsGoOn {D : Type 0} (modelled : Bool) (life : D → Life) : Type 0
   pub asked : (pass after : Pass) (call : Call) (acted : Acted) (found left : Told D) → TakesTurn modelled life pass call acted after found left → IsLater found left
   pub retired : (pass : Pass) (is_taken : Bool) (found left : Told D) → Retires pass is_taken found left → IsLater found left
   pub rested : (turn : Turn) (found left : Told D) → Considers turn found left → IsLater found left
+  pub laid : (found left : Told D) → LaysAhead found left → IsLater found left
   pub both : (first mid last : Told D) → IsLater first mid → IsLater mid last → IsLater first last
 
 -- ---- an answer

@@ -41,3 +41,8 @@ pub record Considers {D : Type 0} (turn : Turn) (found left : Told D) : Type 0 w
   pub room : IfSome turn.checkpointed (λ room. room ≡ left.core.room)
   pub failed : turn.has_failed ≡ true → (found.core.is_failed ≡ false) × (left.core.is_failed ≡ true)
   pub unfailed : found.core.is_failed ≡ false → left.core.is_failed ≡ true → turn.has_failed ≡ true
+
+-- A group may have been laid ahead, or its flush settled: nothing was made, and nothing was listed.
+pub record LaysAhead {D : Type 0} (found left : Told D) : Type 0 where
+  pub rests : Rests found.core left.core
+  pub rest : left ≡ record found { core = left.core }

@@ -1,30 +1,23 @@
 //! Who asks the book for one conversation.
 
 use crate::gate::Gate;
-use crate::held::Held;
+use crate::hold::{Hold, end, lay_ahead};
 use crate::keeping::Share;
 use crate::origin::Origin;
 use crate::shared::Shared;
-use crate::turn::{Begun, Turn, full_of, time};
+use crate::turn::{Turn, time};
 use command_kit::Ask;
 use core_calls::{Answer, CoreCall};
 use core_history::{Acted, Pass, has_run_behind, wished_by};
 use drda_disk::Disk;
 use std::marker::Model;
-use std::sync::{MutexGuard, Wait};
+use std::sync::Wait;
 use std::time::Clock;
 use unit_records::Asked;
 
 /// The lock is kept for the end of a unit that comes behind a query with so many rows at most, since their reply is written
 /// meanwhile.
 const FEW_ROWS: usize = 16;
-
-/// The lock, which is held, and what its turn was like when it began.
-#[derive(Drop)]
-struct Hold<'a, D: Disk, B: Origin<D>> {
-    guard: MutexGuard<'a, Held<D, B>>,
-    begun: Begun,
-}
 
 /// Who asks the book for one conversation, under the lock, call by call: its turn comes outside of the lock, the call and
 /// what it lists are one step inside of it. Behind a short query the lock is kept for the end of its unit, where that has come
@@ -100,7 +93,7 @@ impl<'a, D: Disk, B: Origin<D>, R: Wait + Clock, G: Gate> Asker<'a, D, B, R, G> 
         self.pass
     }
 
-    // The lock for a call, and whether it leads a group. What waits with others must not hold it meanwhile.
+    // The lock for a call, and whether it leads a group, which is laid ahead then. What waits with others must not hold it meanwhile.
     fn come(&mut self, wished: &Option<Asked>) -> (Hold<'a, D, B>, bool)
         ensures { self.new ≡ self.old }
     {
@@ -120,13 +113,15 @@ impl<'a, D: Disk, B: Origin<D>, R: Wait + Clock, G: Gate> Asker<'a, D, B, R, G> 
                 false
             }
         };
-        let mut guard = shared.take(self.rt);
+        let guard = shared.take(self.rt);
         if !leads {
             waiting.go(self.rt);
         }
-        let held = &mut *guard;
-        let begun = Begun::new(self.rt, came, &held.book);
-        (Hold { guard, begun }, leads)
+        let hold = Hold::new(self.rt, came, guard);
+        if leads {
+            return (lay_ahead(self.rt, shared, hold), true);
+        }
+        (hold, false)
     }
 
     // Behind a call that was answered so the lock is kept, or given back.
@@ -140,7 +135,7 @@ impl<'a, D: Disk, B: Origin<D>, R: Wait + Clock, G: Gate> Asker<'a, D, B, R, G> 
         }
         let turn = end(self.rt, hold, Some(acted));
         if leads {
-            self.shared.waiting.end(self.rt, turn.held);
+            self.shared.waiting.end(self.rt);
         }
         self.tell(&turn);
     }
@@ -179,10 +174,9 @@ impl<'a, D: Disk, B: Origin<D>, R: Wait + Clock, G: Gate> Ask for Asker<'a, D, B
         self.has_run = has_run_behind(self.has_run, call);
         let (mut hold, leads) = self.come(&wished);
         let held = &mut *hold.guard;
-        let waiting = &self.shared.waiting;
         let reserved = self.share.set_aside(&self.shared.keeping, call);
         held.bound_rows(reserved);
-        let acted = held.take_turn(self.rt, waiting, &mut self.pass, call, &wished);
+        let acted = held.take_turn(&mut self.pass, call, &wished, leads);
         self.share.settle(&self.shared.keeping, reserved, &acted);
         self.leave(hold, &acted, leads);
         told(acted)
@@ -213,22 +207,6 @@ impl<'a, D: Disk, B: Origin<D>, R: Wait + Clock, G: Gate> Ask for Asker<'a, D, B
         let _guard = shared.take(self.rt);
         self.share.set(&shared.keeping, bytes)
     }
-}
-
-// The lock is given back: what the turn was like, at the end of which this was answered, if it ends behind a call.
-fn end<'a, D: Disk, B: Origin<D>, R: Wait + Clock>(
-    rt: &R,
-    hold: Hold<'a, D, B>,
-    acted: Option<&Acted>,
-) -> Turn {
-    let Hold { mut guard, begun } = hold;
-    let held = &mut *guard;
-    let full = match acted {
-        Some(acted) => full_of(acted, &held.book),
-        None => None,
-    };
-    let turn = begun.end(rt, &held.book);
-    Turn { full, ..turn }
 }
 
 // Whether few rows were answered.

@@ -5,7 +5,7 @@ use crate::turn::{Begun, Turn};
 use crate::waiting::Waiting;
 use core_calls::CoreCall;
 use core_history::{Acted, Book, Pass, Wish};
-use drda_disk::Disk;
+use drda_disk::{Disk, Flushed, Flusher};
 use recovery::images::calls_go_on;
 use serializability::answers::answers_belong_to_calls;
 use std::marker::{Model, PhantomData};
@@ -13,8 +13,8 @@ use std::sync::Wait;
 use std::time::{Clock, Instant};
 use unit_records::Asked;
 
-/// What lies under the lock: the book, which was opened over a core of which this is known, and a list for the wishes that are
-/// being fulfilled, which is used again. To clauses it is the book.
+/// What lies under the lock: the book, which was opened over a core of which this is known, and the wishes that the leader of a
+/// group has taken, a list that is used again. To clauses it is the book.
 #[derive(Drop)]
 pub(crate) struct Held<D: Disk, B: Origin<D>> {
     pub(crate) book: Book<D>,
@@ -44,7 +44,7 @@ impl<D: Disk, B: Origin<D>> Held<D, B> {
     ghost use Rattle.unit_records.specs.Together.{call_for};
     ghost use Rattle.recovery.specs.Journaled.{Journaled, shown_on};
     ghost use Rattle.shared_node.specs.Desks.{DeskActs};
-    ghost use Rattle.shared_node.specs.Locked.{Considers};
+    ghost use Rattle.shared_node.specs.Locked.{Considers, LaysAhead};
     ghost use Rattle.shared_node.specs.Standing.{Stands};
     ghost use Rattle.shared_node.specs.Turns.{MayFulfil, TakesTurn};
 
@@ -98,6 +98,38 @@ impl<D: Disk, B: Origin<D>> Held<D, B> {
         begun.end(rt, &self.book)
     }
 
+    /// Takes all wishes for the group that is led, and lays it ahead of being made: what flushes the disk, where it lies there then.
+    pub(crate) fn lay_ahead<R: Wait + Clock>(
+        &mut self,
+        rt: &R,
+        waiting: &Waiting,
+    ) -> Option<Flusher>
+        ensures lays { LaysAhead self.old self.new }
+        ensures was_kept { IsKept D.is_modelled D.life self.old }
+        ensures is_kept { IsKept D.is_modelled D.life self.new }
+        ensures origin { B.is self.old.opening }
+        ensures journaled { Journaled D.is_modelled (shown_on D.life self.old.core) (shown_on D.life self.new.core) }
+    {
+        self.book.is_kept();
+        waiting.take(rt, &mut self.wishes);
+        let flusher = self.book.lay_ahead(&self.wishes);
+        self.book.is_kept();
+        flusher
+    }
+
+    /// What became of the flush of what was laid ahead.
+    pub(crate) fn settle(&mut self, flushed: Flushed)
+        ensures lays { LaysAhead self.old self.new }
+        ensures was_kept { IsKept D.is_modelled D.life self.old }
+        ensures is_kept { IsKept D.is_modelled D.life self.new }
+        ensures origin { B.is self.old.opening }
+        ensures journaled { Journaled D.is_modelled (shown_on D.life self.old.core) (shown_on D.life self.new.core) }
+    {
+        self.book.is_kept();
+        self.book.settle(flushed);
+        self.book.is_kept();
+    }
+
     /// Takes a pass back, where the book counts as many calls as the pass.
     pub(crate) fn retire(&mut self, pass: Pass) -> bool
         ensures known { IsTrue result ↔ Knows self.old pass }
@@ -121,14 +153,13 @@ impl<D: Disk, B: Origin<D>> Held<D, B> {
         self.book.bound_rows(bytes);
     }
 
-    /// Does one call of a pass, and behind a loss considers a checkpoint.
-    pub(crate) fn take_turn<R: Wait>(
+    /// Does one call of a pass, which may lead a group, and behind a loss considers a checkpoint.
+    pub(crate) fn take_turn(
         &mut self,
-        rt: &R,
-        waiting: &Waiting,
         pass: &mut Pass,
         call: &CoreCall<'_, '_, '_>,
         wished: &Option<Asked>,
+        leads: bool,
     ) -> Acted
         requires { (w : _) → wished.now ≡ Some w → call_of call.now ≡ call_for w }
         ensures shows { DeskActs pass.old (call_of call.now) result pass.new }
@@ -140,21 +171,20 @@ impl<D: Disk, B: Origin<D>> Held<D, B> {
     {
         calls_go_on::<D>();
         self.book.is_kept();
-        let acted = self.act(rt, waiting, pass, call, wished);
+        let acted = self.act(pass, call, wished, leads);
         rest_behind(&mut self.book, call);
         self.book.is_kept();
         acted
     }
 
-    // Does one call of a pass. What was wished for may have been made with others' calls meanwhile; else it is made with
-    // those of all who wait; else alone.
-    fn act<R: Wait>(
+    // Does one call of a pass. What was wished for may have been made with others' calls meanwhile; else who leads makes it with
+    // those of all whose wishes were taken; else it is made alone.
+    fn act(
         &mut self,
-        rt: &R,
-        waiting: &Waiting,
         pass: &mut Pass,
         call: &CoreCall<'_, '_, '_>,
         wished: &Option<Asked>,
+        leads: bool,
     ) -> Acted
         requires { (w : _) → wished.now ≡ Some w → call_of call.now ≡ call_for w }
         ensures shows { DeskActs pass.old (call_of call.now) result pass.new }
@@ -170,7 +200,7 @@ impl<D: Disk, B: Origin<D>> Held<D, B> {
         if let Some(answer) = self.book.collect(pass, wished) {
             return Acted::Answered(answer);
         }
-        self.fulfil(rt, waiting, pass, wished);
+        self.fulfil(pass, wished, leads);
         self.book.is_kept();
         if let Some(answer) = self.book.collect(pass, wished) {
             return Acted::Answered(answer);
@@ -178,15 +208,19 @@ impl<D: Disk, B: Origin<D>> Held<D, B> {
         self.book.act(pass, call)
     }
 
-    // Makes together what is wished for, for all who wait; nothing, where a wish at the pass's place is none of its own.
-    fn fulfil<R: Wait>(&mut self, rt: &R, waiting: &Waiting, pass: &Pass, wished: &Asked)
+    // Makes together what was taken, for who leads, who alone may, since what is laid ahead waits there for its flush. Nothing is made where
+    // a wish at the pass's place is none of its own.
+    fn fulfil(&mut self, pass: &Pass, wished: &Asked, leads: bool)
         ensures fulfils { MayFulfil D.life self.old self.new }
         ensures stands { Stands self.old pass.now wished.now → Stands self.new pass.now wished.now }
         ensures journaled { Journaled D.is_modelled (shown_on D.life self.old.core) (shown_on D.life self.new.core) }
     {
-        waiting.take(rt, &mut self.wishes);
-        fulfil_where_fair(&mut self.book, &self.wishes, pass, wished);
-        self.wishes.clear();
+        calls_go_on::<D>();
+        self.book.core().is_durable();
+        if leads {
+            fulfil_where_fair(&mut self.book, &self.wishes, pass, wished);
+            self.wishes.clear();
+        }
     }
 }
 

@@ -6,6 +6,7 @@ pub mod closing;
 mod desk;
 mod gate;
 mod held;
+mod hold;
 mod keeping;
 pub mod lasting;
 mod origin;

@@ -48,10 +48,11 @@ pub(crate) fn full_of<D: Disk>(acted: &Acted, book: &Book<D>) -> Option<Full> {
     }
 }
 
-/// A turn that has begun, with what the book was like then.
+/// A turn that has begun, with what the book was like then; and for how long the lock was held before it was given back meanwhile.
 #[derive(Clone, Copy)]
 pub(crate) struct Begun {
     waited: u64,
+    held: u64,
     at: Option<Instant>,
     written: u64,
     is_failed: bool,
@@ -69,9 +70,36 @@ impl Begun {
         let at = time(rt);
         Begun {
             waited: micros_between(since, at),
+            held: 0,
             at,
             written: book.checkpoints(),
             is_failed: book.core().is_failed(),
+        }
+    }
+
+    /// The lock is given back for a while.
+    pub(crate) fn pause<R: Clock>(self, rt: &R) -> Begun {
+        Begun {
+            held: micros_between(self.at, time(rt)),
+            ..self
+        }
+    }
+
+    /// The lock was waited for since this time, and is held again; what the book was like before is forgotten. Of both times that the turn waited
+    /// for the lock, and held it, it tells the longer.
+    pub(crate) fn resume<D: Disk, R: Clock>(
+        self,
+        rt: &R,
+        since: Option<Instant>,
+        book: &Book<D>,
+    ) -> Begun
+        ensures { result.is_failed ≡ book.now.core.is_failed }
+    {
+        let again = Begun::new(rt, since, book);
+        Begun {
+            waited: self.waited.max(again.waited),
+            held: self.held,
+            ..again
         }
     }
 
@@ -84,7 +112,7 @@ impl Begun {
     {
         Turn {
             waited: self.waited,
-            held: micros_between(self.at, time(rt)),
+            held: self.held.max(micros_between(self.at, time(rt))),
             checkpointed: room_where(book, book.checkpoints() != self.written),
             gauge: book.core().gauge(),
             has_failed: book.core().is_failed() && !self.is_failed,
@@ -108,8 +136,8 @@ pub(crate) fn time<R: Clock>(rt: &R) -> Option<Instant> {
     Instant::now(rt).ok()
 }
 
-// The microseconds from one time to another, 0 where one of them is not known.
-fn micros_between(from: Option<Instant>, to: Option<Instant>) -> u64 {
+/// The microseconds from one time to another, 0 where one of them is not known.
+pub(crate) fn micros_between(from: Option<Instant>, to: Option<Instant>) -> u64 {
     match (from, to) {
         (Some(from), Some(to)) => {
             u64::try_from(to.duration_since(from).as_micros()).unwrap_or(u64::MAX)

@@ -1,21 +1,23 @@
 //! Who waits to be served together.
 
 use crate::returning::Returning;
+use crate::turn::{micros_between, time};
 use core_history::{PLACES, Wish};
 use std::alloc::{AllocError, Global};
 use std::mem::swap;
 use std::sync::atomic::{AtomicU64, Ordering};
 use std::sync::{Condvar, Mutex, Wait};
-use std::time::{Clock, Duration};
+use std::time::{Clock, Duration, Instant};
 
-// The wishes that wait, and the groups in which they are fulfilled: which one gathers now, and how many were made. Of those
-// who sleep, how many are of the group that gathers, and how many of the one that is being made. For how many wishes the leader waits now,
+// The wishes that wait, and the groups in which they are fulfilled: which one gathers now, how many were made, and when the wishes of the
+// last one were taken. Of those who sleep, how many are of the group that gathers, and how many of the one that is being made. For how many wishes the leader waits now,
 // 0 where it does not, and for how many the next one does.
 #[derive(Drop)]
 struct Line {
     wishes: Vec<Wish>,
     gathers: u64,
     made: u64,
+    taken_at: Option<Instant>,
     is_led: bool,
     sleep: u64,
     leave: u64,
@@ -24,7 +26,7 @@ struct Line {
 }
 
 /// Who waits to commit, to prepare or to decide a branch, beside the lock, which is never waited for while the line is held.
-/// One of a group leads: it makes the calls of all of them, while the next group gathers. Before, it lets those calls go that came to the lock before it,
+/// One of a group leads: it takes all wishes and makes the calls of all of them, while the next group gathers, whose wishes nobody takes until then. Before, it lets those calls go that came to the lock before it,
 /// since who made them may commit next, and waits for those who come back. No contract says anything of it; a wish that nobody fulfils is one that its own
 /// conversation does.
 #[derive(Drop)]
@@ -48,6 +50,7 @@ impl Waiting {
                 wishes,
                 gathers: 1,
                 made: 0,
+                taken_at: None,
                 is_led: false,
                 sleep: 0,
                 leave: 0,
@@ -131,22 +134,25 @@ impl Waiting {
         }
     }
 
-    /// Takes all wishes, in exchange for an empty list; the next group gathers.
-    pub(crate) fn take<R: Wait>(&self, rt: &R, empty: &mut Vec<Wish>) {
+    /// Takes all wishes, in place of those in this list; the next group gathers.
+    pub(crate) fn take<R: Wait + Clock>(&self, rt: &R, wishes: &mut Vec<Wish>) {
+        wishes.clear();
         let mut guard = self.line.lock(rt);
         let line = &mut *guard;
-        swap(&mut line.wishes, empty);
-        line.returning.take(empty.len());
+        swap(&mut line.wishes, wishes);
+        line.taken_at = time(rt);
+        line.returning.take(wishes.len());
         line.gathers = line.gathers.wrapping_add(1);
         line.leave = line.leave.wrapping_add(line.sleep);
         line.sleep = 0;
     }
 
-    /// The group whose wishes were taken last is made, which took so many microseconds. All who slept for it come to the lock now, to
-    /// collect, and the next leader lets them go first; it is one of those who have gathered.
-    pub(crate) fn end<R: Wait>(&self, rt: &R, micros: u64) {
+    /// The group whose wishes were taken last is made. All who slept for it come to the lock now, to collect, and the next leader lets
+    /// them go first; it is one of those who have gathered.
+    pub(crate) fn end<R: Wait + Clock>(&self, rt: &R) {
         let mut guard = self.line.lock(rt);
         let line = &mut *guard;
+        let micros = micros_between(line.taken_at, time(rt));
         let gone = self.gone.load(Ordering::SeqCst);
         let at_lock = self.came.load(Ordering::SeqCst).wrapping_sub(gone);
         let gathered = line.wishes.len();

@@ -127,7 +127,9 @@ impl<'r, R: Wait + Clock> Calls for Bench<'r, R> {
             "holds" | "writes" | "back" | "consider" | "close" => {
                 self.locks.tell(self.rt, verb, rest, out)
             }
-            "wish" | "gather" | "collect" => self.desks.tell_of_groups(verb, rest, out),
+            "wish" | "lay" | "settle" | "gather" | "collect" => self
+                .desks
+                .tell_of_groups(verb, rest, out),
             _ => self.desks.tell(verb, rest, out),
         }
     }

@@ -1,7 +1,7 @@
 //! A book, and passes, of which some may be another book's.
 
 use core_calls::{Answer, CoreCall};
-use drda_disk::{FuseDisk, MemDisk};
+use drda_disk::{Flushed, FuseDisk, MemDisk};
 use durable_core::DurableCore;
 use shared_node::{Acted, Book, Pass, Wish};
 use std::alloc::{AllocError, Global};
@@ -10,13 +10,14 @@ use test_calls::push_text;
 /// A core over a disk in memory that may fail.
 pub type Core = DurableCore<FuseDisk<MemDisk>>;
 
-/// A book, passes in the order in which they were given, from 1 on, and wishes to commit.
+/// A book, passes in the order in which they were given, from 1 on, wishes to commit, and what became of the flush of a group that was laid ahead.
 #[derive(Drop)]
 pub struct Desks {
     pub(crate) alloc: Global,
     pub(crate) book: Option<Book<FuseDisk<MemDisk>>>,
     pub(crate) passes: Vec<Option<Pass>>,
     pub(crate) wishes: Vec<Wish>,
+    pub(crate) flushed: Option<Flushed>,
     strangers: u64,
 }
 
@@ -49,6 +50,7 @@ impl Desks {
             book: None,
             passes: Vec::new(alloc),
             wishes: Vec::new(alloc),
+            flushed: None,
             strangers: 0,
         }
     }
@@ -68,6 +70,7 @@ impl Desks {
     pub fn forget(&mut self) {
         self.passes.clear();
         self.wishes.clear();
+        self.flushed = None;
     }
 
     /// What the book answers to a call with the pass of this number: to a stranger's, which is counted, as where it is closed.

@@ -60,6 +60,30 @@ impl Desks {
         self.wishes.push(pass.wish(wished)).ok()
     }
 
+    // What was wished for is laid ahead of being made together, where that is possible, and flushed.
+    fn lay(&mut self) -> Option<&'static str> {
+        let Some(book) = &mut self.book else {
+            return None;
+        };
+        let Some(flusher) = book.lay_ahead(&self.wishes) else {
+            return Some("not laid");
+        };
+        self.flushed = Some(flusher.flush());
+        Some("laid")
+    }
+
+    // The book is told of the flush.
+    fn settle(&mut self) -> Option<&'static str> {
+        let Some(book) = &mut self.book else {
+            return None;
+        };
+        let Some(flushed) = self.flushed.take() else {
+            return Some("nothing to settle");
+        };
+        book.settle(flushed);
+        Some("settled")
+    }
+
     // What was wished for is made together, where that is possible. Then there are no wishes.
     fn gather(&mut self) -> Option<()> {
         let Some(book) = &mut self.book else {
@@ -88,12 +112,23 @@ impl Desks {
         }
     }
 
-    /// `wish N` is the wish of a pass to commit, and `wish N VERB XID` for a phase of a branch; `gather` makes together what was wished for,
-    /// and `collect N`, or `collect N VERB XID`, gives what is left for a pass.
+    // What becomes of all wishes.
+    fn tell_of_all(&mut self, verb: &str, out: &mut Vec<u8>) -> Option<()> {
+        match verb {
+            "lay" => push_text(out, self.lay()?),
+            "settle" => push_text(out, self.settle()?),
+            _ => {
+                self.gather()?;
+                push_text(out, "gathered")
+            }
+        }
+    }
+
+    /// `wish N` is the wish of a pass to commit, and `wish N VERB XID` for a phase of a branch; `lay` lays ahead what was wished for and flushes it, and `settle` tells the book of that;
+    /// `gather` makes it together, and `collect N`, or `collect N VERB XID`, gives what is left for a pass.
     pub fn tell_of_groups(&mut self, verb: &str, rest: &str, out: &mut Vec<u8>) -> Option<()> {
-        if verb == "gather" {
-            self.gather()?;
-            return push_text(out, "gathered");
+        if matches!(verb, "lay" | "settle" | "gather") {
+            return self.tell_of_all(verb, out);
         }
         let (number, wished) = wish_in(self.alloc, rest)?;
         if verb == "wish" {

@@ -51,7 +51,7 @@ front_above : (key : List ℕ) (a b : Rows) → Above key (a ++ b) → Above key
 front_above key [] b above = tt
 front_above key (e ∷ es) b above = (above.0, front_above key es b above.1)
 
-front_order : (a b : Rows) → InOrder (a ++ b) → InOrder a
+pub front_order : (a b : Rows) → InOrder (a ++ b) → InOrder a
 unfolding IsStrictlySortedBy
 front_order [] b up = tt
 front_order (e ∷ es) b up = (front_above e.0 es b (sorted_head by_bytes e.0 (keys_of (es ++ b)) up), front_order es b (sorted_tail by_bytes e.0 (keys_of (es ++ b)) up))

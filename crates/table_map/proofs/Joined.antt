@@ -68,7 +68,7 @@ module _ (key_of : List ℕ → List ℕ) where
       at zero (x ∷ l) lt = (x, refl)
       at (suc i) (x ∷ l) lt = at i l (omega (arith, lt))
 
-  page_before : (end : Option (List ℕ)) (page : List (List ℕ)) → 0 < length page → InOrder (keyed_rows key_of page) → ((row : List ℕ) → slice_get page (length page - 1) ≡ Some row → ComesBefore (key_of row) end) → AllBefore end page
+  pub page_before : (end : Option (List ℕ)) (page : List (List ℕ)) → 0 < length page → InOrder (keyed_rows key_of page) → ((row : List ℕ) → slice_get page (length page - 1) ≡ Some row → ComesBefore (key_of row) end) → AllBefore end page
   page_before None page some up last = tt
   page_before (Some end) page some up last = let row = last_at page some in below_at page (length page - 1) row.0 end (omega (arith, some)) up row.1 (last row.0 row.1)
 

@@ -10,3 +10,4 @@ mod Passed
 mod Told
 mod Joined
 pub mod Knowing
+mod Whole

@@ -33,7 +33,7 @@ put_first old key o more =
 module _ (key_of : List ℕ → List ℕ) where
   -- ---- one row
 
-  above_row : (row : List ℕ) (changes : Rows) → order_to (key_of row) changes ≡ Greater → InOrder (map change_of changes) → Above (key_of row) (map change_of changes)
+  pub above_row : (row : List ℕ) (changes : Rows) → order_to (key_of row) changes ≡ Greater → InOrder (map change_of changes) → Above (key_of row) (map change_of changes)
   above_row row [] is up = tt
   above_row row (e ∷ es) is up = all_above (key_of row) e.0 (said e.1) (map change_of es) (mirrored e.0 (key_of row) is) up
 

@@ -9,3 +9,4 @@ pub mod Room
 pub mod Stored
 pub mod Table
 pub mod Walk
+pub mod Whole

@@ -49,6 +49,11 @@ abbrev pub GivesRow : List (List ℕ) → PagesLeft → Type 0
 GivesRow [] new = new.rows ≡ []
 GivesRow (row ∷ rows) new = (new.rows ≡ rows) × (new.last ≡ Some row)
 
+-- the page that was read is given, where none of its rows was
+abbrev pub TakesPage : PagesLeft → Option Page → PagesLeft → Type 0
+TakesPage old None new = new ≡ old
+TakesPage old (Some page) new = (old.rows ≡ page.rows) × (new ≡ record { at = old.at; pages = old.pages; rows = []; last = None })
+
 abbrev pub IsFirstEntry : Rows → Option (Bor (List ℕ) × Bor (List ℕ)) → Type 0
 IsFirstEntry entries None = entries ≡ []
 IsFirstEntry entries (Some e) = (more : Rows) × (entries ≡ (e.0.now, e.1.now) ∷ more)

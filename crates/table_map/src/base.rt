@@ -1,12 +1,12 @@
 //! The rows of a table's pages, one page at a time.
-ghost use Rattle.std.specs.Prelude.{◌≡◌, ◌+◌, ◌*◌, ◌^◌, ◌<◌, ◌≤◌, [], IsTrue, None, OnOk, length};
+ghost use Rattle.std.specs.Prelude.{◌≡◌, ◌+◌, ◌*◌, ◌^◌, ◌<◌, ◌≤◌, [], IfSome, IsTrue, None, OnOk, length};
 ghost use Rattle.std.specs.List.{slice_get};
 ghost use Rattle.drda_words.specs.Place.{part};
 ghost use Rattle.drda_disk.specs.Disk.{Stays};
 ghost use Rattle.row_pages.specs.Keeping.{CountsPageFault};
 ghost use Rattle.table_map.specs.Damage.{DamagedWhere, HasNoRows};
 ghost use Rattle.table_map.specs.Keyed.{seen};
-ghost use Rattle.table_map.specs.Walk.{GivesRow, IsFirstRow, IsLoaded, Loads, page_rows};
+ghost use Rattle.table_map.specs.Walk.{GivesRow, IsFirstRow, IsLoaded, Loads, TakesPage, page_rows};
 
 use drda_disk::Disk;
 use row_pages::{KeptPage, PAGE_BYTES, PageFault, read_page};
@@ -111,6 +111,26 @@ impl RowsLeft {
         if self.given < row_count(&self.page) {
             self.given += 1;
         }
+    }
+
+    /// The page that was read, where none of its rows was given.
+    pub(crate) fn whole(&self) -> Option<&KeptPage>
+        ensures { IfSome result (λ page. self.now.rows ≡ page.now.rows) }
+    {
+        match &self.page {
+            Some(page) if self.given == 0 => Some(page),
+            _ => None,
+        }
+    }
+
+    /// Gives the page that was read, where none of its rows was given.
+    pub(crate) fn take_page(&mut self) -> Option<KeptPage>
+        ensures { TakesPage self.old result self.new }
+    {
+        if self.given > 0 {
+            return None;
+        }
+        self.page.take()
     }
 
     /// The row that was given last, where it lies.

@@ -14,6 +14,7 @@ mod room;
 mod scan;
 mod schema_keys;
 mod table;
+mod whole_pages;
 
 pub use cursor::RowCursor;
 pub use keys::RowKeys;

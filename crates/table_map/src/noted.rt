@@ -4,6 +4,7 @@ ghost use Rattle.std.specs.Prelude.{◌≡◌, ℕ, List, [], ◌∷◌, ◌++�
 
 use crate::TablePages;
 use drda_words::GhostValue;
+use row_pages::KeptPage;
 use std::marker::Model;
 
 /// A list of rows, as clauses see it.
@@ -37,6 +38,13 @@ impl NotedRows {
         ensures { self.new.listed.value ≡ self.old.listed.value ++ row.now ∷ [] }
     {
         self.listed.set(&row);
+    }
+
+    /// All rows of a page more, behind the others.
+    pub fn note_page(&mut self, page: &KeptPage)
+        ensures { self.new.listed.value ≡ self.old.listed.value ++ page.now.rows }
+    {
+        self.listed.set(&page);
     }
 }
 

@@ -4,10 +4,10 @@ ghost use Rattle.std.specs.Prelude.{◌+◌, ◌*◌, ◌≤◌, length};
 use crate::opened::opened;
 use drda_disk::Disk;
 use key_map::row_form;
-use row_pages::{PageFault, Pager};
+use row_pages::{KeptPage, PageFault, Pager};
 use row_values::Schema;
 use std::alloc::Global;
-use table_map::{JudgedRow, SchemaKeys, TableMap};
+use table_map::{JudgedRow, NotedRows, SchemaKeys, TableMap};
 use tables::Rows;
 use test_bytes::bytes_of;
 use test_rows::{say, tell};
@@ -92,8 +92,44 @@ fn tell_count<D: Disk>(
     }
 }
 
-/// Tells what a line asks for, of a table of so many pages: `get` a row by the key of a row, `rows` all of them, and `count` the pages that
-/// they take. Changes that are made first stand in front of it, each with a semicolon behind it.
+// Tells the rows of a page that is given whole, where one is, and notes them.
+fn tell_page(alloc: Global, given: Option<KeptPage>, out: &mut Vec<u8>) -> Option<()> {
+    let Some(page) = given else {
+        return say(out, "no page");
+    };
+    NotedRows::none().note_page(&page);
+    for i in 0..page.len() {
+        tell(alloc, out, "row", page.row(i))?;
+    }
+    say(out, "end")
+}
+
+// Tells the first page, where it is given whole behind one that has so many bytes left, and then the next one, behind a page that has
+// none.
+fn tell_pages<D: Disk>(
+    alloc: Global,
+    schema: &Schema,
+    table: &TableMap,
+    disk: &mut D,
+    room: &str,
+    out: &mut Vec<u8>,
+) -> Option<()>
+    requires { table.now.places.at + 8192 * length table.now.places.keys ≤ length (D.life disk.old).seen }
+{
+    let room = room.parse::<usize>().unwrap_or(0);
+    let mut cursor = table.rows();
+    match cursor.next_page(alloc, &SchemaKeys { schema }, disk, room) {
+        Ok(given) => tell_page(alloc, given, out)?,
+        Err(fault) => return say(out, name_of(fault)),
+    }
+    match cursor.next_page(alloc, &SchemaKeys { schema }, disk, 0) {
+        Ok(given) => tell_page(alloc, given, out),
+        Err(fault) => say(out, name_of(fault)),
+    }
+}
+
+/// Tells what a line asks for, of a table of so many pages: `get` a row by the key of a row, `rows` all of them, `whole` the pages that
+/// are given whole, and `count` how many pages they take. Changes that are made first stand in front of it, each with a semicolon behind it.
 pub fn tell_asked<D: Disk>(
     alloc: Global,
     schema: &Schema,
@@ -108,6 +144,7 @@ pub fn tell_asked<D: Disk>(
         Ok(table) => match verb {
             "get" => tell_row(alloc, schema, &table, pager, row, out),
             "rows" => tell_rows(alloc, schema, &table, pager, out),
+            "whole" => tell_pages(alloc, schema, &table, pager, row, out),
             _ => tell_count(alloc, schema, &table, pager, out),
         },
         Err(fault) => say(out, name_of(fault)),

@@ -34,31 +34,15 @@ impl<R: Recorder> Recorder for Unpaged<R> {
         self.recorder.record_all(sayings)
     }
 
-    ghost allows_lay = { λ u said. R.allows_lay u.recorder said };
+    ghost lays_ahead = { λ old new. R.lays_ahead old.recorder new.recorder };
 
-    ghost lays = { λ old said new. R.lays old.recorder said new.recorder };
+    ghost fails_ahead = { λ old new. R.fails_ahead old.recorder new.recorder };
 
-    ghost fails_to_lay = { λ old said new. R.fails_to_lay old.recorder said new.recorder };
-
-    fn lay_all(&mut self, sayings: &[RecordContents<'_>]) -> Result<(), GroupError> {
-        self.recorder.lay_all(sayings)
+    fn lay_ahead(&mut self, sayings: &[RecordContents<'_>]) -> Result<bool, DeviceFailed> {
+        self.recorder.lay_ahead(sayings)
     }
 
-    ghost allows_open = { λ u. R.allows_open u.recorder };
-
-    ghost opens = { λ old new. R.opens old.recorder new.recorder };
-
-    ghost fails_to_open = { λ old new. R.fails_to_open old.recorder new.recorder };
-
-    fn open_laid(&mut self) -> Result<(), DeviceFailed> {
-        self.recorder.open_laid()
-    }
-
-    ghost drops = { λ old new. R.drops old.recorder new.recorder };
-
-    fn drop_laid(&mut self) {
-        self.recorder.drop_laid()
-    }
+    ghost lays_none = { λ u. R.lays_none u.recorder };
 }
 
 impl<R> Source for Unpaged<R> {

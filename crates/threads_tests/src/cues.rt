@@ -1,5 +1,6 @@
 //! Cues as lines spell them.
 
+use crate::boards::{Deed, Stand};
 use crate::stages::{Act, Cue, Point};
 
 // `call N`, `read N`, `write N` or `closed`, and what stands behind it.
@@ -37,6 +38,24 @@ pub fn cue_of(text: &str) -> Option<Cue> {
         conversations: (from.parse::<u64>().ok()?, to.parse::<u64>().ok()?),
         point,
         act: act_of(rest)?,
+    })
+}
+
+// `stands N`, `lasts N`, or what is done at a point.
+fn deed_of(text: &str) -> Option<Deed> {
+    match text.split_once(' ') {
+        Some(("stands", number)) => Some(Deed::Stands(number.parse::<u64>().ok()?)),
+        Some(("lasts", hours)) => Some(Deed::Lasts(hours.parse::<u64>().ok()?)),
+        _ => Some(Deed::Does(act_of(text)?)),
+    }
+}
+
+/// What the disk does in a sync: `NUMBER DEED`.
+pub fn stand_of(text: &str) -> Option<Stand> {
+    let (sync, deed) = text.split_once(' ')?;
+    Some(Stand {
+        sync: sync.parse::<u64>().ok()?,
+        deed: deed_of(deed)?,
     })
 }
 

@@ -1,13 +1,19 @@
-//! Conversations that are served side by side, a thread for each. A line of standard input says what conversations say and where they wait
-//! for each other; what became of them goes to standard output, which is compared.
+//! Conversations that are served side by side, a thread for each. A line of standard input says what conversations say and where they, and the disk,
+//! wait for each other; what became of them goes to standard output, which is compared.
 #![tactic(auto)]
 
+mod boards;
+mod clocks;
 mod cues;
 mod plays;
 mod rows;
+mod sleepers;
 mod stages;
+mod standing;
 mod talks;
 
+use crate::boards::Board;
+use crate::plays::House;
 use crate::rows::Rows;
 use std::io::{self, Write};
 use std::process::ExitCode;
@@ -16,7 +22,13 @@ fn main(rt: HostRuntime) -> ExitCode {
     let Ok(text) = io::read_to_string(rt.alloc(), rt.stdin()) else {
         return ExitCode::from(1);
     };
-    let mut rows = Rows::new(&rt, rt.alloc());
+    let board = Board::new(rt.alloc());
+    let mut rows = Rows::new(House {
+        rt: &rt,
+        files: rt,
+        alloc: rt.alloc(),
+        board: &board,
+    });
     let is_done = rows.follow(&text).is_some();
     match tell(&rt, rows.written()) {
         Ok(()) if is_done => ExitCode::from(0),

@@ -1,6 +1,9 @@
 //! Conversations that are served over one core, a thread for each.
 
-use crate::stages::{Cue, LIMIT, Stage};
+use crate::boards::{Board, LIMIT, Stand};
+use crate::clocks::Ahead;
+use crate::stages::{Cue, Stage};
+use crate::standing::StandingDisk;
 use crate::talks::{Checker, Talk, Tape};
 use conversation::Settings;
 use drda_disk::MemDisk;
@@ -14,23 +17,52 @@ use std::thread::{Threads, yield_now};
 use std::time::Clock;
 use test_nodes::fresh_store;
 
-/// A core over a disk in memory.
-pub type Core = DurableCore<MemDisk>;
+/// A disk in memory that may stand in its syncs.
+pub type Stood<'r> = StandingDisk<'r, MemDisk>;
 
-/// The core of a fresh store of the name SHOP. None without memory.
-pub fn fresh_core(alloc: Global) -> Option<Core> {
-    match open(alloc, fresh_store(alloc)?) {
-        Ok(core) => Some(core),
-        Err(_) => None,
+/// A core over such a disk.
+pub type Core<'r> = DurableCore<Stood<'r>>;
+
+/// Where plays are played: what they run on, where is looked who sleeps, and the board on which they tell.
+#[derive(Drop)]
+pub struct House<'r, R> {
+    pub rt: &'r R,
+    pub files: HostRuntime,
+    pub alloc: Global,
+    pub board: &'r Board,
+}
+
+impl<'r, R> House<'r, R> {
+    fn opened(&self, disk: MemDisk) -> Option<Core<'r>> {
+        match open(
+            self.alloc,
+            StandingDisk::new(self.files, self.alloc, self.board, disk),
+        ) {
+            Ok(core) => Some(core),
+            Err(_) => None,
+        }
+    }
+
+    /// The core of a fresh store of the name SHOP. None without memory.
+    pub fn fresh_core(&self) -> Option<Core<'r>> {
+        self.opened(fresh_store(self.alloc)?)
+    }
+
+    /// What is opened of a core's disk behind a crash, which leaves of each write that was not synced what `pick` says. None
+    /// without memory.
+    pub fn crashed(&self, core: Core<'r>, pick: u64) -> Option<Core<'r>> {
+        self.opened(core.into_disk().into_inner().after_crash(pick))
     }
 }
 
-/// What is opened of a core's disk behind a crash, which leaves of each write that was not synced what `pick` says. None without memory.
-pub fn crashed(alloc: Global, core: Core, pick: u64) -> Option<Core> {
-    match open(alloc, core.into_disk().after_crash(pick)) {
-        Ok(core) => Some(core),
-        Err(_) => None,
-    }
+/// What conversations say, and where they and the disk wait for each other.
+#[derive(Clone, Copy)]
+pub struct Script<'a> {
+    pub cues: &'a [Cue],
+    pub stands: &'a [Stand],
+    pub talks: &'a [Talk],
+    /// The last conversation comes again and again, until it is heard.
+    pub is_crowd: bool,
 }
 
 /// What is left when all have ended: how many waited for too long, whether each has given its leave back, and
@@ -100,20 +132,17 @@ impl<'a> Streams for Callers<'a> {
     }
 }
 
-/// Serves these conversations over a core, which is handed back; they wait for each other by these cues. Where
-/// `is_crowd`, the last one comes again and again, until it is heard. None without memory.
-pub fn play<R: Threads + Wait + Clock + Sync>(
-    rt: &R,
-    alloc: Global,
-    core: Core,
-    cues: &[Cue],
-    talks: &[Talk],
-    is_crowd: bool,
-) -> Option<(Left, Core)> {
-    let stage = Stage::new(cues);
-    let (talks, again) = match talks.split_last() {
-        Some((last, others)) if is_crowd => (others, Some(last)),
-        _ => (talks, None),
+/// Serves the conversations of a script over a core, which is handed back. None without memory.
+pub fn play<'r, R: Threads + Wait + Clock + Sync>(
+    house: &House<'r, R>,
+    core: Core<'r>,
+    script: Script<'_>,
+) -> Option<(Left, Core<'r>)> {
+    house.board.begin(script.stands)?;
+    let stage = Stage::new(script.cues, house.board);
+    let (talks, again) = match script.talks.split_last() {
+        Some((last, others)) if script.is_crowd => (others, Some(last)),
+        _ => (script.talks, None),
     };
     let mut callers = Callers {
         stage: &stage,
@@ -123,9 +152,9 @@ pub fn play<R: Threads + Wait + Clock + Sync>(
         number: 0,
         tries: 0,
     };
-    let (book, is_idle) = serve(rt, alloc, core, &stage, &mut callers)?;
+    let (book, is_idle) = serve(house, core, &stage, &mut callers)?;
     let left = Left {
-        late: stage.late(),
+        late: house.board.late(),
         is_idle,
         is_failed: book.core().is_failed(),
     };
@@ -134,14 +163,14 @@ pub fn play<R: Threads + Wait + Clock + Sync>(
 
 // Serves the conversations of these callers over a core, for ana with the password pw. The book that is left, and whether all
 // leave came back to it. None without memory.
-fn serve<R: Threads + Wait + Clock + Sync>(
-    rt: &R,
-    alloc: Global,
-    core: Core,
+fn serve<'r, R: Threads + Wait + Clock + Sync>(
+    house: &House<'r, R>,
+    core: Core<'r>,
     stage: &Stage<'_>,
     callers: &mut Callers<'_>,
-) -> Option<(Book<MemDisk>, bool)> {
-    let shared: Shared<MemDisk, Brand> = match Shared::new(alloc, core, u64::MAX) {
+) -> Option<(Book<Stood<'r>>, bool)> {
+    let alloc = house.alloc;
+    let shared: Shared<Stood<'r>, Brand> = match Shared::new(alloc, core, u64::MAX) {
         Ok(shared) => shared,
         Err(_) => return None,
     };
@@ -153,8 +182,12 @@ fn serve<R: Threads + Wait + Clock + Sync>(
         cursor_bytes: usize::MAX,
         failure: &failure,
     };
+    let rt = Ahead {
+        rt: house.rt,
+        board: house.board,
+    };
     serve_streams(
-        rt, alloc, &shared, &settings, stage, &Silent, rules, callers,
+        &rt, alloc, &shared, &settings, stage, &Silent, rules, callers,
     )
     .ok()?;
     match shared.close(Vec::new(alloc)) {

@@ -1,7 +1,8 @@
 //! What conversations say and where they wait for each other, a line each.
 
-use crate::cues::{cue_of, push_order};
-use crate::plays::{Core, crashed, fresh_core, play};
+use crate::boards::{Spent, Stand};
+use crate::cues::{cue_of, push_order, stand_of};
+use crate::plays::{Core, House, Left, Script, play};
 use crate::stages::Cue;
 use crate::talks::{Named, Talk, joined, pieces_of};
 use std::alloc::Global;
@@ -11,14 +12,16 @@ use std::thread::Threads;
 use std::time::Clock;
 use test_bytes::bytes_of;
 
-/// Bytes by their names, a core, conversations that are still to be served over it with their cues, and what became of the lines so far.
+/// Bytes by their names, a core, conversations that are still to be served over it with their cues and those of the disk, and what became of
+/// the lines so far.
 #[derive(Drop)]
 pub struct Rows<'r, R> {
-    rt: &'r R,
+    house: House<'r, R>,
     alloc: Global,
     named: Vec<Named>,
-    core: Option<Core>,
+    core: Option<Core<'r>>,
     cues: Vec<Cue>,
+    stands: Vec<Stand>,
     talks: Vec<Talk>,
     written: Vec<u8>,
 }
@@ -55,15 +58,34 @@ fn push_count(alloc: Global, talks: &[Talk], out: &mut Vec<u8>) -> Option<()> {
     )
 }
 
+// Appends what is left when all have ended; and of a play whose disk stood somewhere, how long that was.
+fn push_left(alloc: Global, left: Left, spent: Option<Spent>, out: &mut Vec<u8>) -> Option<()> {
+    let (late, is_idle, is_failed) = (left.late, left.is_idle, left.is_failed);
+    push_text(
+        out,
+        &format!(in alloc; "  late: {late}, idle: {is_idle}, failed: {is_failed}").ok()?,
+    )?;
+    let Some(spent) = spent else {
+        return Some(());
+    };
+    let (syncs, waited, held) = (spent.syncs, spent.waited, spent.held);
+    push_text(
+        out,
+        &format!(in alloc; "; syncs: {syncs}, hours waited: {waited}, held: {held}").ok()?,
+    )
+}
+
 impl<'r, R: Threads + Wait + Clock + Sync> Rows<'r, R> {
     /// Nothing.
-    pub fn new(rt: &'r R, alloc: Global) -> Rows<'r, R> {
+    pub fn new(house: House<'r, R>) -> Rows<'r, R> {
+        let alloc = house.alloc;
         Rows {
-            rt,
+            house,
             alloc,
             named: Vec::new(alloc),
             core: None,
             cues: Vec::new(alloc),
+            stands: Vec::new(alloc),
             talks: Vec::new(alloc),
             written: Vec::new(alloc),
         }
@@ -88,27 +110,31 @@ impl<'r, R: Threads + Wait + Clock + Sync> Rows<'r, R> {
         Some(())
     }
 
-    // `name` gives bytes a name, and `fresh` is a core over a fresh store. `talks` lays conversations, `cue` a cue, and `order` those of calls that
-    // are made one after the other. `serve` serves the conversations, and `crowd` such of which the last one comes until it is heard. `crash` opens
-    // what a crash leaves.
+    // `name` gives bytes a name, and `fresh` is a core over a fresh store. `talks` lays conversations, `cue` a cue, `order` those of calls that
+    // are made one after the other, and `sync` what the disk does in a sync. `serve` serves the conversations, and `crowd` such of which the last
+    // one comes until it is heard. `crash` opens what a crash leaves.
     fn answer(&mut self, verb: &str, rest: &str) -> Option<()> {
         match verb {
             "name" => self.lay_name(rest),
             "fresh" => {
-                self.core = Some(fresh_core(self.alloc)?);
+                self.core = Some(self.house.fresh_core()?);
                 Some(())
             }
             "talks" => self.lay_talks(rest),
             "cue" => self.cues.push(cue_of(rest)?).ok(),
             "order" => push_order(&mut self.cues, rest),
+            "sync" => self.stands.push(stand_of(rest)?).ok(),
             "serve" | "crowd" => self.serve(verb == "crowd"),
-            "crash" => {
-                let pick = rest.parse::<u64>().ok()?;
-                self.core = Some(crashed(self.alloc, self.core.take()?, pick)?);
-                Some(())
-            }
+            "crash" => self.crash(rest),
             _ => None,
         }
+    }
+
+    fn crash(&mut self, pick: &str) -> Option<()> {
+        let pick = pick.parse::<u64>().ok()?;
+        let core = self.core.take()?;
+        self.core = Some(self.house.crashed(core, pick)?);
+        Some(())
     }
 
     fn lay_name(&mut self, rest: &str) -> Option<()> {
@@ -134,21 +160,33 @@ impl<'r, R: Threads + Wait + Clock + Sync> Rows<'r, R> {
     // Serves the conversations over the core, and tells what became of them. Then there are none.
     fn serve(&mut self, is_crowd: bool) -> Option<()> {
         let core = self.core.take()?;
-        let (left, core) = play(self.rt, self.alloc, core, &self.cues, &self.talks, is_crowd)?;
+        let script = Script {
+            cues: &self.cues,
+            stands: &self.stands,
+            talks: &self.talks,
+            is_crowd,
+        };
+        let (left, core) = play(&self.house, core, script)?;
         self.core = Some(core);
-        let (late, is_idle, is_failed) = (left.late, left.is_idle, left.is_failed);
-        let told = format!(in self.alloc;
-            "  late: {late}, idle: {is_idle}, failed: {is_failed}"
-        ).ok()?;
-        push_text(&mut self.written, &told)?;
+        self.tell(left)?;
+        self.cues.clear();
+        self.stands.clear();
+        self.talks.clear();
+        Some(())
+    }
+
+    fn tell(&mut self, left: Left) -> Option<()> {
+        let spent = if self.stands.is_empty() {
+            None
+        } else {
+            Some(self.house.board.spent())
+        };
+        push_left(self.alloc, left, spent, &mut self.written)?;
         if self.talks.len() > TOLD {
             push_count(self.alloc, &self.talks, &mut self.written)?;
         } else {
             push_ends(self.alloc, &self.talks, &mut self.written)?;
         }
-        push_text(&mut self.written, "\n")?;
-        self.cues.clear();
-        self.talks.clear();
-        Some(())
+        push_text(&mut self.written, "\n")
     }
 }

@@ -1,11 +1,7 @@
 //! Who waits where, and for whom.
 
-use shared_node::Gate;
-use std::sync::atomic::{AtomicU64, Ordering};
-use std::thread::yield_now;
-
-/// How often is looked at most, until what is waited for has come.
-pub const LIMIT: u64 = 10_000_000;
+use crate::boards::Board;
+use shared_node::{Gate, Turn};
 
 /// Where a conversation is: before a call, a read or a write of its own, counted from 0, or where its stream was closed.
 #[derive(Clone, Copy, PartialEq, Eq)]
@@ -34,21 +30,16 @@ pub struct Cue {
 }
 
 /// Conversations that wait for each other, by these cues; each follows its own in their order.
-#[derive(Drop)]
+#[derive(Clone, Copy)]
 pub struct Stage<'a> {
     cues: &'a [Cue],
-    told: AtomicU64,
-    late: AtomicU64,
+    board: &'a Board,
 }
 
 impl<'a> Stage<'a> {
-    /// Nothing was told yet.
-    pub fn new(cues: &'a [Cue]) -> Stage<'a> {
-        Stage {
-            cues,
-            told: AtomicU64::new(0),
-            late: AtomicU64::new(0),
-        }
+    /// What is told goes to this board.
+    pub fn new(cues: &'a [Cue], board: &'a Board) -> Stage<'a> {
+        Stage { cues, board }
     }
 
     /// A conversation has come to a point.
@@ -56,46 +47,23 @@ impl<'a> Stage<'a> {
         for cue in self.cues {
             let (first, last) = cue.conversations;
             if cue.point == point && first <= conversation && conversation <= last {
-                self.follow(cue.act);
-            }
-        }
-    }
-
-    fn follow(&self, act: Act) {
-        match act {
-            Act::Tells => self.tell(),
-            Act::Awaits(number) => {
-                if !self.is_told(number) {
-                    self.late.fetch_add(1, Ordering::SeqCst);
-                }
+                self.board.follow(cue.act);
             }
         }
     }
 
     /// One more is told.
     pub fn tell(&self) {
-        self.told.fetch_add(1, Ordering::SeqCst);
-    }
-
-    // Waits until this many were told. False where that took too long.
-    fn is_told(&self, number: u64) -> bool {
-        for _ in 0..LIMIT {
-            if self.told.load(Ordering::SeqCst) >= number {
-                return true;
-            }
-            yield_now();
-        }
-        false
-    }
-
-    /// How many have waited for too long.
-    pub fn late(&self) -> u64 {
-        self.late.load(Ordering::SeqCst)
+        self.board.tell();
     }
 }
 
 impl Gate for Stage<'_> {
     fn turn(&self, conversation: u64, n: u64) {
         self.reach(conversation, Point::Call(n));
+    }
+
+    fn after(&self, _conversation: u64, turn: &Turn) {
+        self.board.note(turn);
     }
 }

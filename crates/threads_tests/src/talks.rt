@@ -1,6 +1,7 @@
 //! Conversations over streams in memory: what they say, and whether they are answered as they should be.
 
-use crate::stages::{LIMIT, Point, Stage};
+use crate::boards::LIMIT;
+use crate::stages::{Point, Stage};
 use std::alloc::Global;
 use std::io::{self, Read, Write};
 use std::net::OpenStream;

@@ -1,7 +1,8 @@
 -- What refusals say.
-use Rattle.std.specs.Prelude.{◌≡◌, ℕ, ◌+◌, ◌-◌, ◌^◌, ◌<◌, ◌≤◌, min, Result, Ok, Err}
+use Rattle.std.specs.Prelude.{◌≡◌, ℕ, ◌+◌, ◌-◌, ◌^◌, ◌<◌, ◌≤◌, min, Option, Some, None, Result, Ok, Err}
 use Rattle.unit_journal.specs.declared.errors.AppendError.{AppendError}
 use Rattle.unit_journal.specs.declared.errors.AppendError.TheVariants as append
+use Rattle.unit_journal.specs.declared.errors.Full.{Full}
 use Rattle.unit_journal.specs.declared.errors.LayError.{LayError}
 use Rattle.unit_journal.specs.declared.errors.LayError.TheVariants as lay
 
@@ -10,6 +11,11 @@ abbrev pub SaysFull : {T : Type 0} → Result T AppendError → ℕ → ℕ → 
 SaysFull (Ok x) asked release room = asked ≤ room + release
 SaysFull (Err append.DeviceFailed) asked release room = asked ≤ room + release
 SaysFull (Err (append.Full full)) asked release room = (full.need ≡ asked - release) × (full.room ≡ room) × (room + release < asked)
+
+-- what is lacking, where anything is: the difference, and the room that there is
+abbrev pub Lacks : Option Full → ℕ → ℕ → ℕ → Type 0
+Lacks None asked release room = asked ≤ room + release
+Lacks (Some full) asked release room = (full.need ≡ asked - release) × (full.room ≡ room) × (room + release < asked)
 
 -- what holds where the record is refused for want of room
 abbrev pub OnRefused : {T : Type 0} → Result T AppendError → Type 0 → Type 0

@@ -1,5 +1,5 @@
 -- A region reads in one way, and a journal is at rest in one.
-use Rattle.std.specs.Prelude.{◌≡◌, ◌⊎◌, ℕ, ◌<◌, ◌≤◌, Bool, List, [], length}
+use Rattle.std.specs.Prelude.{◌≡◌, ◌⊎◌, ℕ, ◌<◌, ◌≤◌, Bool, List, length}
 use Rattle.drda_words.specs.Bytes.{AreBytes}
 use Rattle.drda_disk.specs.Disk.{Life}
 use Rattle.drda_disk.specs.Region.{end_of}
@@ -21,10 +21,10 @@ abbrev pub SomeReading : Type 0
 SomeReading = (region : Region) (image : List ℕ) → AreBytes image → 0 < region.length → end_of region ≤ length image
     → ((es : List Entry) × Stands region es image) ⊎ ((gate : ℕ) × IsDamagedAt region gate image)
 
--- records that are there to stay are records with no group on its way behind them
+-- records that are there to stay are settled
 pub record IsSettledAsStaged (modelled : Bool) (disk : Life) (s : Staged) (es : List Entry) : Type 0 where
-  pub begins : IsSettled modelled disk (journal_of s) es → IsUnderWay modelled disk s es [] []
-  pub ends : IsUnderWay modelled disk s es [] [] → IsSettled modelled disk (journal_of s) es
+  pub begins : IsSettled modelled disk (journal_of s) es → IsUnderWay modelled disk s es
+  pub ends : IsUnderWay modelled disk s es → IsSettled modelled disk (journal_of s) es
 
 -- at rest
 abbrev pub StagesRest : {D : Type 0} → Bool → (D → Life) → Type 0

@@ -1,117 +1,72 @@
--- What a journal with groups on their way shows.
-use Rattle.std.specs.Prelude.{◌≡◌, ℕ, ◌+◌, ◌-◌, ◌<◌, ◌≤◌, Bool, true, IsTrue, List, [], ◌∷◌, ◌++◌, length, drop}
+-- What a journal shows behind whose records a group may be laid.
+use Rattle.std.specs.Prelude.{◌≡◌, ℕ, ◌+◌, ◌<◌, ◌≤◌, Bool, true, false, IsTrue, List, [], ◌∷◌, ◌++◌, length, drop, Option, Some, None, Result, OnOk}
 use Rattle.drda_words.specs.Place.{part}
-use Rattle.drda_disk.specs.Disk.{Life, Now, Only}
-use Rattle.drda_disk.specs.Region.{end_of}
+use Rattle.drda_disk.specs.Disk.{LeavesOnly, Life, Now, Only}
+use Rattle.drda_disk.specs.Region.{SameOutside}
 use Rattle.drda_disk.specs.declared.region.Region.{Region}
-use Rattle.unit_journal.specs.Record.{Entry, AreShort, laid}
+use Rattle.unit_journal.specs.Record.{Entry, laid}
 use Rattle.unit_journal.specs.Stands.{IsBeforeOrAfterAll, Stands}
-use Rattle.unit_journal.specs.Adding.{MayAdd}
+use Rattle.unit_journal.specs.Adding.{Takes}
+use Rattle.unit_journal.specs.Errors.{CountsAppend, SaysFull}
+use Rattle.unit_journal.specs.Journal.{room_of}
+use Rattle.unit_journal.specs.declared.errors.AppendError.{AppendError}
 use Rattle.unit_journal.specs.declared.journal.Journal.{Journal}
 use Rattle.unit_journal.specs.declared.staged.Staged.{Staged}
 
+-- it ends in front of what was laid, and holds nothing back for it
 abbrev pub journal_of : Staged → Journal
 journal_of s = s.journal
 
 abbrev pub region_of : Staged → Region
 region_of s = s.journal.region
 
--- the offset behind the records that are there to stay
+-- the offset behind its records
 abbrev pub next_of : Staged → ℕ
 next_of s = s.journal.next
-
-abbrev pub held_of : Staged → ℕ
-held_of s = s.journal.held
-
-abbrev pub gated_of : Staged → ℕ
-gated_of s = s.gated
-
-abbrev pub laid_of : Staged → ℕ
-laid_of s = s.laid
 
 abbrev pub is_settled : Staged → Bool
 is_settled s = s.is_settled
 
--- how many bytes are held back without the group that was laid
-abbrev pub kept_of : Staged → ℕ
-kept_of s = s.kept
+abbrev pub records_ahead : Option (List Entry) → List Entry
+records_ahead None = []
+records_ahead (Some hs) = hs
 
--- how many bytes are left for records
-abbrev pub room_of : Staged → ℕ
-room_of s = end_of (region_of s) - next_of s - gated_of s - laid_of s - 1 - held_of s
+-- the records that were laid; there may be none
+abbrev pub ahead_of : Staged → List Entry
+ahead_of s = records_ahead s.ahead
 
 -- what is written of a group behind its first gate; nothing of no records
 abbrev pub body_of : List Entry → List ℕ
 body_of gs = drop 1 (laid gs ++ 0 ∷ [])
 
--- The records `es` are there to stay; of `gs` a crash leaves all or none, and what is read has all; `hs` are laid behind
--- them, and a crash leaves none of them.
-pub record IsUnderWay (modelled : Bool) (disk : Life) (s : Staged) (es gs hs : List Entry) : Type 0 where
+-- These records are there to stay: a crash leaves them and no others, whatever was laid behind them.
+pub record IsUnderWay (modelled : Bool) (disk : Life) (s : Staged) (es : List Entry) : Type 0 where
   pub modelled_disk : IsTrue modelled
-  pub images : (c : List ℕ) → Now disk c → IsBeforeOrAfterAll (region_of s) disk.seen es gs c
-  pub stands : Stands (region_of s) (es ++ gs) disk.seen
+  pub images : (c : List ℕ) → Now disk c → IsBeforeOrAfterAll (region_of s) disk.seen es [] c
+  pub stands : Stands (region_of s) es disk.seen
   pub next : next_of s ≡ (region_of s).at + length (laid es)
-  pub gated : gated_of s ≡ length (laid gs)
-  pub laid_is : laid_of s ≡ length (laid hs)
-  pub body : part disk.seen (next_of s + gated_of s + 1) (length (laid hs)) ≡ body_of hs
-  pub short : AreShort hs
+  -- what was laid stands behind the closed gate
+  pub body : part disk.seen (next_of s + 1) (length (laid (ahead_of s))) ≡ body_of (ahead_of s)
   -- where nothing was written since the last sync, a crash leaves what is read
   pub rest : is_settled s ≡ true → Only disk
 
--- no group is on its way, and nothing was written since the last sync
+-- nothing is laid, and nothing was written since the last sync
 pub record IsAtRest (s : Staged) : Type 0 where
-  pub none_gated : gated_of s ≡ 0
-  pub none_laid : laid_of s ≡ 0
+  pub none_ahead : ahead_of s ≡ []
   pub settled : is_settled s ≡ true
 
--- ---- what the stages ask for, and what they make of a journal
+-- What adding records makes of a disk and a journal behind which others may have been laid. A crash at any moment leaves the
+-- records from before, with all of these or without; `Full` is told exactly where they have no room, and a failure of the
+-- device is counted.
+pub record AddsBehind {T : Type 0} (modelled : Bool) (old new : Life) (before after : Staged) (gs : List Entry) (bytes hold release : ℕ) (result : Result T AppendError) : Type 0 where
+  pub ok : (es : List Entry) → IsUnderWay modelled old before es → OnOk result (IsUnderWay modelled new after (es ++ gs))
+  pub any_moment : (es : List Entry) → IsUnderWay modelled old before es → LeavesOnly old new (IsBeforeOrAfterAll (region_of before) old.seen es gs)
+  pub others : SameOutside (region_of before) old.seen new.seen
+  pub full : SaysFull result (bytes + hold) release (room_of (journal_of before))
+  pub cause : CountsAppend result old.faults new.faults
+  pub takes : OnOk result (Takes (journal_of before) bytes hold release (journal_of after))
 
--- a group of so many bytes may be laid, with so many bytes held back and released
-pub record MayLay (size : ℕ) (s : Staged) (bytes hold release : ℕ) : Type 0 where
-  pub may : MayAdd size (journal_of s) bytes hold release
-  pub none_laid : laid_of s ≡ 0
-
-pub record LaysBytes (old : Staged) (bytes hold release : ℕ) (new : Staged) : Type 0 where
-  pub region : region_of new ≡ region_of old
-  pub next : next_of new ≡ next_of old
-  pub gated : gated_of new ≡ gated_of old
-  pub laid_is : laid_of new ≡ bytes
-  pub held : held_of new + release ≡ held_of old + hold
-  pub kept : kept_of new ≡ held_of old
-  pub room : room_of new + (bytes + hold) ≡ room_of old + release
-
--- the gate of the group that was laid may be opened
-pub record MayOpen (size : ℕ) (s : Staged) : Type 0 where
-  pub inside : end_of (region_of s) ≤ size
-  pub some : 0 < laid_of s
-  pub none_gated : gated_of s ≡ 0
-  pub settled : is_settled s ≡ true
-
-pub record OpensGate (old new : Staged) : Type 0 where
-  pub region : region_of new ≡ region_of old
-  pub next : next_of new ≡ next_of old
-  pub gated : gated_of new ≡ laid_of old
-  pub none_laid : laid_of new ≡ 0
-  pub held : held_of new ≡ held_of old
-  pub kept : kept_of new ≡ held_of old
-  pub room : room_of new ≡ room_of old
-
-pub record SettlesGate (old new : Staged) : Type 0 where
-  pub region : region_of new ≡ region_of old
-  pub next : next_of new ≡ next_of old + gated_of old
-  pub none_gated : gated_of new ≡ 0
-  pub laid_stays : laid_of new ≡ laid_of old
-  pub held : held_of new ≡ held_of old
-  pub kept : kept_of new ≡ kept_of old
-  pub room : room_of new ≡ room_of old
-  pub settled : is_settled new ≡ true
-
--- what it held back and released is put back
-pub record DropsLaid (old new : Staged) : Type 0 where
-  pub region : region_of new ≡ region_of old
-  pub next : next_of new ≡ next_of old
-  pub gated : gated_of new ≡ gated_of old
-  pub none_laid : laid_of new ≡ 0
-  pub held : held_of new ≡ kept_of old
-  pub room : room_of new + kept_of old ≡ room_of old + (laid_of old + held_of old)
-  pub settled : is_settled new ≡ is_settled old
+-- whether a group lies behind the records then: exactly where it has room with what is held back and released
+abbrev pub LiesBehind : Bool → ℕ → ℕ → ℕ → List Entry → List Entry → Type 0
+LiesBehind true asked release room group ahead = (ahead ≡ group) × (asked ≤ room + release)
+LiesBehind false asked release room group ahead = (ahead ≡ []) × (room + release < asked)

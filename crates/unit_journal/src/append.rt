@@ -1,7 +1,8 @@
 //! Adding a record, or several at once.
-ghost use Rattle.std.specs.Prelude.{◌≡◌, ◌+◌, ◌++◌, ◌∷◌, [], List, length, OnErr};
+ghost use Rattle.std.specs.Prelude.{◌≡◌, ◌+◌, ◌^◌, ◌<◌, ◌≤◌, ◌++◌, ◌∷◌, [], List, length, OnErr};
 ghost use Rattle.unit_journal.specs.Adding.{Adds, MayAdd};
-ghost use Rattle.unit_journal.specs.Errors.{OnRefused};
+ghost use Rattle.unit_journal.specs.Errors.{Lacks, OnRefused};
+ghost use Rattle.unit_journal.specs.Journal.{held_of, room_of};
 ghost use Rattle.unit_journal.specs.LaidRecord.{entry_in};
 ghost use Rattle.unit_journal.specs.Record.{Entry, laid};
 
@@ -57,6 +58,23 @@ impl Journal {
         self.append_behind(disk, group.bytes(), hold, release)
     }
 
+    /// What records of so many bytes lack, with `hold` more bytes held back and `release` fewer.
+    pub(crate) fn lacks(&self, bytes: usize, hold: usize, release: usize) -> Option<Full>
+        requires counted { bytes + hold < 2 ^ 64 }
+        requires released { release ≤ held_of self.now }
+        ensures { Lacks result (bytes + hold) release (room_of self.now) }
+    {
+        let need = bytes + hold;
+        let room = self.room();
+        if need > room + release {
+            return Some(Full {
+                need: need - release,
+                room,
+            });
+        }
+        None
+    }
+
     /// Adds the records that these bytes spell behind an open gate.
     fn append_behind<D: Disk>(
         &mut self,
@@ -71,13 +89,9 @@ impl Journal {
         ensures same { OnErr result (self.new ≡ self.old) }
         ensures refused { OnRefused result ((self.new ≡ self.old) × (disk.new ≡ disk.old)) }
     {
-        let need = bytes.len() + hold;
-        let room = self.room();
-        if need > room + release {
-            return Err(AppendError::Full(Full {
-                need: need - release,
-                room,
-            }));
+        match self.lacks(bytes.len(), hold, release) {
+            Some(full) => return Err(AppendError::Full(full)),
+            None => {}
         }
         write_through(disk, self.next + 1, bytes)?;
         write_through(disk, self.next, &[OPEN])?;

@@ -1,5 +1,5 @@
 //! Records that are put together before they are added at once.
-ghost use Rattle.std.specs.Prelude.{◌≡◌, ◌-◌, ◌<◌, ◌++◌, ◌∷◌, [], length, slice_set, OnOk, OnErr};
+ghost use Rattle.std.specs.Prelude.{◌≡◌, ◌↔◌, IsTrue, ◌-◌, ◌<◌, ◌++◌, ◌∷◌, [], length, slice_set, OnOk, OnErr};
 ghost use Rattle.unit_journal.specs.Record.{laid};
 ghost use Rattle.unit_journal.specs.LaidRecord.{entry_in};
 
@@ -66,6 +66,13 @@ impl LaidGroup {
         ensures { result ≡ length (laid self.now) }
     {
         self.bytes().len()
+    }
+
+    /// Whether both have the same records.
+    pub fn is_same(&self, other: &LaidGroup) -> bool
+        ensures { IsTrue result ↔ (self.now ≡ other.now) }
+    {
+        self.bytes == other.bytes
     }
 
     /// What is written behind the gate of the first.

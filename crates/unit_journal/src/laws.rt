@@ -13,7 +13,7 @@ pub fn a_region_has_some_reading()
     ensures { SomeReading }
 {}
 
-/// A journal at rest is one with groups on their way of which there is none, and the other way round.
+/// Of a journal at rest the records that are there to stay are settled, and the other way round.
 pub fn stages_begin_and_end_at_rest<D: Disk>()
     ensures { StagesRest D.is_modelled D.life }
 {}

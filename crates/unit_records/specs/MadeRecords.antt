@@ -8,7 +8,7 @@ pub record MadeRecords : Type 0 where
   -- the groups of calls that have been answered: they are there to stay
   pub done : List (List Entry)
   -- those of calls that have not: a crash may show each, all of it or none. They are the group of the call in which the device
-  -- failed, if one was due of it, or one that was opened and has not settled
+  -- failed, if one was due of it
   pub begun : List (List Entry)
 
 abbrev pub none_made : MadeRecords
@@ -25,7 +25,3 @@ with_done made groups = record made { done = made.done ++ groups }
 -- or begun
 abbrev pub with_begun : MadeRecords → List (List Entry) → MadeRecords
 with_begun made groups = record made { begun = made.begun ++ groups }
-
--- those that were begun are there to stay
-abbrev pub all_done : MadeRecords → MadeRecords
-all_done made = record { done = made.done ++ made.begun; begun = [] }

@@ -11,7 +11,7 @@ use crate::recorder::Recorder;
 pub struct NoRecords;
 
 impl Recorder for NoRecords {
-    ghost use Rattle.std.specs.Prelude.{◌≡◌};
+    ghost use Rattle.std.specs.Prelude.{◌≡◌, refl};
 
     ghost allows = { λ _ _. Unit {0} };
 
@@ -33,27 +33,13 @@ impl Recorder for NoRecords {
         Ok(())
     }
 
-    ghost allows_lay = { λ _ _. Unit {0} };
+    ghost lays_ahead = { λ old new. new ≡ old };
 
-    ghost lays = { λ old _ new. new ≡ old };
+    ghost fails_ahead = { λ _ _. ⊥ };
 
-    ghost fails_to_lay = { λ _ _ _. ⊥ };
-
-    fn lay_all(&mut self, _sayings: &[RecordContents<'_>]) -> Result<(), GroupError> {
-        Ok(())
+    fn lay_ahead(&mut self, _sayings: &[RecordContents<'_>]) -> Result<bool, DeviceFailed> {
+        Ok(false)
     }
 
-    ghost allows_open = { λ _. Unit {0} };
-
-    ghost opens = { λ old new. new ≡ old };
-
-    ghost fails_to_open = { λ _ _. ⊥ };
-
-    fn open_laid(&mut self) -> Result<(), DeviceFailed> {
-        Ok(())
-    }
-
-    ghost drops = { λ old new. new ≡ old };
-
-    fn drop_laid(&mut self) {}
+    ghost lays_none = { λ _. refl };
 }

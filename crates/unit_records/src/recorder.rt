@@ -16,10 +16,8 @@ use crate::record_error::RecordError;
 /// is made, and `fails` what it is where that is refused. `allows_all`, `records_all` and `fails_all` say
 /// the same of records that are made together; `fails_all` of the device alone.
 ///
-/// Records that go together may be made in two steps, so that the device is flushed between them and behind them while
-/// others are served: they are laid, of which a crash shows nothing, and then they are opened, of which it may show all or
-/// none until the device has settled. `allows_lay`, `lays` and `fails_to_lay` say so of the first step, `allows_open`,
-/// `opens` and `fails_to_open` of the second, and `drops` of a recorder that gives up what was laid.
+/// Records that go together may be laid ahead, so that the device is flushed while others are served: `lays_ahead` and
+/// `fails_ahead` say what that may make of the recorder. It promises nothing but that all is as it was.
 pub trait Recorder {
     ghost allows: { Self → UnitRecord → Type 0 };
 
@@ -45,33 +43,16 @@ pub trait Recorder {
         ensures ok { OnOk result (records_all self.old (map said_by sayings.now) self.new) }
         ensures err { IfErr result (λ error. FailsTogether fails_all (map said_by sayings.now) error self.old self.new) };
 
-    ghost allows_lay: { Self → List UnitRecord → Type 0 };
+    ghost lays_ahead: { Self → Self → Type 0 };
 
-    ghost lays: { Self → List UnitRecord → Self → Type 0 };
+    ghost fails_ahead: { Self → Self → Type 0 };
 
-    ghost fails_to_lay: { Self → List UnitRecord → Self → Type 0 };
+    /// Lays these ahead of being made together, as a hint: whether they lie there then. All is as it was.
+    fn lay_ahead(&mut self, sayings: &[RecordContents<'_>]) -> Result<bool, DeviceFailed>
+        requires allowed { allows_all self.old (map said_by sayings.now) }
+        ensures ok { OnOk result (lays_ahead self.old self.new) }
+        ensures err { OnErr result (fails_ahead self.old self.new) };
 
-    /// Lays these, one behind another, to be opened at once.
-    fn lay_all(&mut self, sayings: &[RecordContents<'_>]) -> Result<(), GroupError>
-        requires allowed { allows_lay self.old (map said_by sayings.now) }
-        ensures ok { OnOk result (lays self.old (map said_by sayings.now) self.new) }
-        ensures err { IfErr result (λ error. FailsTogether fails_to_lay (map said_by sayings.now) error self.old self.new) };
-
-    ghost allows_open: { Self → Type 0 };
-
-    ghost opens: { Self → Self → Type 0 };
-
-    ghost fails_to_open: { Self → Self → Type 0 };
-
-    /// Opens those that were laid: all of them, or none.
-    fn open_laid(&mut self) -> Result<(), DeviceFailed>
-        requires allowed { allows_open self.old }
-        ensures ok { OnOk result (opens self.old self.new) }
-        ensures err { OnErr result (fails_to_open self.old self.new) };
-
-    ghost drops: { Self → Self → Type 0 };
-
-    /// Gives up those that were laid. Takes no memory, and makes no device call.
-    fn drop_laid(&mut self)
-        ensures { drops self.old self.new };
+    /// Who lays nothing is as it was.
+    ghost lays_none: { (recorder : Self) → lays_ahead recorder recorder };
 }

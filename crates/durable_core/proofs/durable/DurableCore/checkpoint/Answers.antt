@@ -3,7 +3,7 @@ use Rattle.unit_journal.specs.Record.{entries_of}
 use Rattle.unit_journal.specs.declared.record.Record.{Record}
 use Rattle.tables.specs.Tables.{Store as Tables}
 use Rattle.core_model.specs.Step.{CoreState}
-use Rattle.rdb_core.specs.State.{recorder_of, state_of}
+use Rattle.rdb_core.specs.State.{pages_of, recorder_of, state_of}
 use Rattle.journal_recorder.specs.Recording.{has_failed}
 use Rattle.paged_tables.specs.PagedTables.{store_in}
 use Rattle.recovery.proofs.Doubts.{xids_count}
@@ -14,9 +14,11 @@ use Rattle.recovery.specs.Journaled.{Journaled, OnDisk, shown_on}
 use Rattle.recovery.specs.Part.{durable_part}
 use Rattle.durable_core.specs.Recorded.{core_on}
 use Rattle.durable_core.proofs.Recording.{stays_failed}
+use Rattle.durable_core.proofs.Resting.{has_store, left_by, not_rested, rested}
 use Rattle.durable_core.specs.Checkpointing.{Checkpoints, told_of}
 use Rattle.durable_core.specs.declared.checkpointing.Checkpointed.{Checkpointed}
-use Rattle.durable_core.proofs.Switching.{has_store, left_by, untouched_journaled}
+use Rattle.durable_core.specs.declared.checkpointing.Checkpointed.TheVariants.{DeviceFailed}
+use Rattle.durable_core.proofs.Switching.{untouched_journaled}
 use Rattle.durable_core.proofs.durable.DurableCore.checkpoint.Goals as goal
 
 pub held_in-held-requires : goal.held_in-held-requires
@@ -42,18 +44,57 @@ returns-in-Err-find_places-clause-journaled g c =
     subst (λ (s : OnDisk g.row.D.Denot). Journaled g.D.Disk.is_modelled (shown_on g.D.Disk.life s) (shown_on g.D.Disk.life s)) c.self.view_is
     (untouched_journaled g.D.Disk.is_modelled g.D.Disk.life (string_bytes c.self.inside.name) c.calls_make_records.ensures (state_of c.self.inside.core) (state_of c.self.inside.core) (recorder_of c.self.inside.core) c.self.invariant.0 going refl)
 
-pub checkpoint-requires : goal.checkpoint-requires
-checkpoint-requires g c =
+pub returns-in-Err-rest-clause-told : goal.returns-in-Err-rest-clause-told
+returns-in-Err-rest-clause-told g c =
     let going : has_failed (recorder_of c.self.inside.core) ≡ false = search rules in
-    record {
-      going = going;
-      rest = c.self.invariant.0.rest;
-      inside = c.self.invariant.0.inside;
-      pages = c.self.invariant.1;
-    }
+    let s = state_of c.self.inside.core in
+    let r = recorder_of c.self.inside.core in
+    let left = not_rested g.D.Disk.is_modelled g.D.Disk.life (string_bytes c.self.inside.name)
+    (record { moments = c.moments_hold.ensures; laid = c.doubts_are_laid.ensures; sound = c.records_lead_to_sound_states.ensures; stores = c.checkpoints_are_known.ensures.stores })
+    (record { stay = c.groups_stay.ensures; calls = c.calls_make_records.ensures; go_on = c.calls_go_on.ensures })
+    s r c.self.invariant.0 going c.rest.new.self c.in-Err-rest.ensures.err in
+    subst (λ (old : OnDisk g.row.D.Denot). Checkpoints g.D.Disk.is_modelled DeviceFailed (shown_on g.D.Disk.life old) (shown_on g.D.Disk.life (core_on (string_bytes c.self.inside.name) s c.rest.new.self))) c.self.view_is left.told_is
+
+pub returns-in-Err-rest-clause-journaled : goal.returns-in-Err-rest-clause-journaled
+returns-in-Err-rest-clause-journaled g c =
+    let going : has_failed (recorder_of c.self.inside.core) ≡ false = search rules in
+    let s = state_of c.self.inside.core in
+    let r = recorder_of c.self.inside.core in
+    let left = not_rested g.D.Disk.is_modelled g.D.Disk.life (string_bytes c.self.inside.name)
+    (record { moments = c.moments_hold.ensures; laid = c.doubts_are_laid.ensures; sound = c.records_lead_to_sound_states.ensures; stores = c.checkpoints_are_known.ensures.stores })
+    (record { stay = c.groups_stay.ensures; calls = c.calls_make_records.ensures; go_on = c.calls_go_on.ensures })
+    s r c.self.invariant.0 going c.rest.new.self c.in-Err-rest.ensures.err in
+    subst (λ (old : OnDisk g.row.D.Denot). Journaled g.D.Disk.is_modelled (shown_on g.D.Disk.life old) (shown_on g.D.Disk.life (core_on (string_bytes c.self.inside.name) s c.rest.new.self))) c.self.view_is left.journaled_is
 
 pub invariant_of-self : goal.invariant_of-self
 invariant_of-self g c =
+    let going : has_failed (recorder_of c.self.inside.core) ≡ false = search rules in
+    let s = state_of c.self.inside.core in
+    let r = recorder_of c.self.inside.core in
+    let left = not_rested g.D.Disk.is_modelled g.D.Disk.life (string_bytes c.self.inside.name)
+    (record { moments = c.moments_hold.ensures; laid = c.doubts_are_laid.ensures; sound = c.records_lead_to_sound_states.ensures; stores = c.checkpoints_are_known.ensures.stores })
+    (record { stay = c.groups_stay.ensures; calls = c.calls_make_records.ensures; go_on = c.calls_go_on.ensures })
+    s r c.self.invariant.0 going c.rest.new.self c.in-Err-rest.ensures.err in
+    (left.recorded, c.pages_are_kept.ensures.not_laid r c.rest.new.self (pages_of c.self.inside.core) c.in-Err-rest.ensures.err c.self.invariant.1)
+
+pub checkpoint-requires : goal.checkpoint-requires
+checkpoint-requires g c =
+    let going : has_failed (recorder_of c.self.inside.core) ≡ false = search rules in
+    let s = state_of c.self.inside.core in
+    let r = recorder_of c.self.inside.core in
+    let is_rested = rested g.D.Disk.is_modelled g.D.Disk.life (string_bytes c.self.inside.name)
+    (record { moments = c.moments_hold.ensures; laid = c.doubts_are_laid.ensures; sound = c.records_lead_to_sound_states.ensures; stores = c.checkpoints_are_known.ensures.stores })
+    (record { stay = c.groups_stay.ensures; calls = c.calls_make_records.ensures; go_on = c.calls_go_on.ensures })
+    s r c.self.invariant.0 going c.rest.new.self c.in-Ok-rest.ensures.ok c.in-Ok-rest.ensures.rest c.rest.ensures.stays in
+    record {
+      going = c.in-Ok-rest.ensures.ok.going ∙ going;
+      rest = c.in-Ok-rest.ensures.rest;
+      inside = is_rested.inside;
+      pages = c.pages_are_kept.ensures.laid_ahead r c.rest.new.self (pages_of c.self.inside.core) c.in-Ok-rest.ensures.ok c.self.invariant.1;
+    }
+
+pub invariant_of-self-2 : goal.invariant_of-self-2
+invariant_of-self-2 g c =
     let going : has_failed (recorder_of c.self.inside.core) ≡ false = search rules in
     let s = state_of c.self.inside.core in
     let r = recorder_of c.self.inside.core in
@@ -63,8 +104,15 @@ invariant_of-self g c =
     let placed = λ (good : AreGood (records_of (durable_part s).doubts)). c.in-Ok-find_places.ensures (durable_part s).doubts good (ap (λ (l : List Record). entries_of l) c.as_slice.ensures.value ∙ c.in-Ok.ensures) in
     let is_left = left_by g.D.Disk.is_modelled g.D.Disk.life (string_bytes c.self.inside.name)
     (record { moments = c.moments_hold.ensures; laid = c.doubts_are_laid.ensures; sound = c.records_lead_to_sound_states.ensures; stores = c.checkpoints_are_known.ensures.stores })
-    s r c.self.invariant.0 going (entries_of c.as_slice-2.result.now) are placed c.held_in-held.result c.held_in-held.ensures c.checkpoint.result t same c.checkpoint.new.self c.checkpoint.ensures.told in
-    (is_left.recorded, c.checkpoint.ensures.pages (has_store g.D.Disk.is_modelled g.D.Disk.life (string_bytes c.self.inside.name) s r c.self.invariant.0 going))
+    (record { stay = c.groups_stay.ensures; calls = c.calls_make_records.ensures; go_on = c.calls_go_on.ensures })
+    s r c.self.invariant.0 going c.rest.new.self c.in-Ok-rest.ensures.ok c.in-Ok-rest.ensures.rest c.rest.ensures.stays
+    (entries_of c.as_slice-2.result.now) are placed c.held_in-held.result c.held_in-held.ensures c.checkpoint.result t same c.checkpoint.new.self c.checkpoint.ensures.told in (
+      is_left.recorded,
+      c.checkpoint.ensures.pages (has_store g.D.Disk.is_modelled g.D.Disk.life (string_bytes c.self.inside.name)
+          (record { moments = c.moments_hold.ensures; laid = c.doubts_are_laid.ensures; sound = c.records_lead_to_sound_states.ensures; stores = c.checkpoints_are_known.ensures.stores })
+          (record { stay = c.groups_stay.ensures; calls = c.calls_make_records.ensures; go_on = c.calls_go_on.ensures })
+          s r c.self.invariant.0 going c.rest.new.self c.in-Ok-rest.ensures.ok c.in-Ok-rest.ensures.rest c.rest.ensures.stays),
+    )
 
 pub returns-clause-told : goal.returns-clause-told
 returns-clause-told g c =
@@ -77,7 +125,9 @@ returns-clause-told g c =
     let placed = λ (good : AreGood (records_of (durable_part s).doubts)). c.in-Ok-find_places.ensures (durable_part s).doubts good (ap (λ (l : List Record). entries_of l) c.as_slice.ensures.value ∙ c.in-Ok.ensures) in
     let is_left = left_by g.D.Disk.is_modelled g.D.Disk.life (string_bytes c.self.inside.name)
     (record { moments = c.moments_hold.ensures; laid = c.doubts_are_laid.ensures; sound = c.records_lead_to_sound_states.ensures; stores = c.checkpoints_are_known.ensures.stores })
-    s r c.self.invariant.0 going (entries_of c.as_slice-2.result.now) are placed c.held_in-held.result c.held_in-held.ensures c.checkpoint.result t same c.checkpoint.new.self c.checkpoint.ensures.told in
+    (record { stay = c.groups_stay.ensures; calls = c.calls_make_records.ensures; go_on = c.calls_go_on.ensures })
+    s r c.self.invariant.0 going c.rest.new.self c.in-Ok-rest.ensures.ok c.in-Ok-rest.ensures.rest c.rest.ensures.stays
+    (entries_of c.as_slice-2.result.now) are placed c.held_in-held.result c.held_in-held.ensures c.checkpoint.result t same c.checkpoint.new.self c.checkpoint.ensures.told in
     subst (λ (x : Checkpointed). Checkpoints g.D.Disk.is_modelled x (shown_on g.D.Disk.life c.args.self.now) (shown_on g.D.Disk.life (core_on (string_bytes c.self.inside.name) t c.checkpoint.new.self))) (sym c.told.ensures)
     (subst (λ (old : OnDisk g.row.D.Denot). Checkpoints g.D.Disk.is_modelled (told_of c.checkpoint.result) (shown_on g.D.Disk.life old) (shown_on g.D.Disk.life (core_on (string_bytes c.self.inside.name) t c.checkpoint.new.self))) c.self.view_is is_left.told_is)
 
@@ -92,5 +142,7 @@ returns-clause-journaled g c =
     let placed = λ (good : AreGood (records_of (durable_part s).doubts)). c.in-Ok-find_places.ensures (durable_part s).doubts good (ap (λ (l : List Record). entries_of l) c.as_slice.ensures.value ∙ c.in-Ok.ensures) in
     let is_left = left_by g.D.Disk.is_modelled g.D.Disk.life (string_bytes c.self.inside.name)
     (record { moments = c.moments_hold.ensures; laid = c.doubts_are_laid.ensures; sound = c.records_lead_to_sound_states.ensures; stores = c.checkpoints_are_known.ensures.stores })
-    s r c.self.invariant.0 going (entries_of c.as_slice-2.result.now) are placed c.held_in-held.result c.held_in-held.ensures c.checkpoint.result t same c.checkpoint.new.self c.checkpoint.ensures.told in
+    (record { stay = c.groups_stay.ensures; calls = c.calls_make_records.ensures; go_on = c.calls_go_on.ensures })
+    s r c.self.invariant.0 going c.rest.new.self c.in-Ok-rest.ensures.ok c.in-Ok-rest.ensures.rest c.rest.ensures.stays
+    (entries_of c.as_slice-2.result.now) are placed c.held_in-held.result c.held_in-held.ensures c.checkpoint.result t same c.checkpoint.new.self c.checkpoint.ensures.told in
     subst (λ (old : OnDisk g.row.D.Denot). Journaled g.D.Disk.is_modelled (shown_on g.D.Disk.life old) (shown_on g.D.Disk.life (core_on (string_bytes c.self.inside.name) t c.checkpoint.new.self))) c.self.view_is is_left.journaled_is

@@ -1,10 +1,9 @@
 use Rattle.std.proofs.Common.{rules, ◌≡◌, ◌+◌, ◌≤◌, List, [], ◌∷◌, ◌++◌, length, ◌∙◌, ap, subst, arith, refl}
 use Rattle.drda_disk.specs.Disk.{LeavesOnly}
-use Rattle.unit_journal.specs.Journal.{IsSettled, region_of, room_of}
+use Rattle.unit_journal.specs.Journal.{region_of, room_of}
 use Rattle.unit_journal.specs.Record.{Entry, laid as spelled}
-use Rattle.unit_journal.specs.Staged.{journal_of as journal_in}
+use Rattle.unit_journal.specs.Staged.{IsUnderWay}
 use Rattle.unit_journal.specs.Stands.{IsBeforeOrAfterAll}
-use Rattle.unit_journal.specs.declared.staged.Staged.{Staged}
 use Rattle.unit_records.specs.MadeRecords.{with_begun, with_done}
 use Rattle.unit_records.specs.Room.{taken_by}
 use Rattle.journal_recorder.specs.Recording.{disk_of, journal_of, made_of}
@@ -19,7 +18,7 @@ returns-in-Ok-clause-ok g c records are =
     let size : length (spelled c.args.laid.now.group) ≡ taken_by records = ap (λ (es : List Entry). length (spelled es)) are.entries ∙ length-laid records in
     record {
       good = are.good;
-      settled = λ es is. subst (λ (gs : List Entry). IsSettled g.D.Disk.is_modelled (life c.append_group.new.disk) (journal_in c.append_group.new.self) (es ++ gs)) are.entries (told.adds.ok es is);
+      settled = λ es is. subst (λ (gs : List Entry). IsUnderWay g.D.Disk.is_modelled (life c.append_group.new.disk) c.append_group.new.self (es ++ gs)) are.entries (told.adds.ok es is);
       moments = λ es is. subst (λ (gs : List Entry). LeavesOnly (life (disk_of old)) (life c.append_group.new.disk) (IsBeforeOrAfterAll (region_of (journal_of old)) (life (disk_of old)).seen es gs)) are.entries (told.adds.any_moment es is);
       others = told.adds.others;
       region = told.adds.takes.region;
@@ -29,7 +28,6 @@ returns-in-Ok-clause-ok g c records are =
       was_going = c.requires.going;
       faults = told.adds.cause;
       going = c.requires.going;
-      rest = told.rest;
       made = c.note_all.ensures ∙ ap (λ (gs : List Entry). with_done (made_of old) (gs ∷ [])) are.entries;
     }
 
@@ -46,10 +44,9 @@ returns-in-Err-DeviceFailed-clause-err g c records are =
       fits = omega (arith, full, size, are.holds, are.releases);
       moments = λ es is. subst (λ (gs : List Entry). LeavesOnly (life (disk_of old)) (life c.append_group.new.disk) (IsBeforeOrAfterAll (region_of (journal_of old)) (life (disk_of old)).seen es gs)) are.entries (told.adds.any_moment es is);
       others = told.adds.others;
-      journal = ap (λ (s : Staged). journal_in s) told.same;
+      journal = told.same;
       layout = refl;
       faults = cause;
       failed = refl;
-      rest = told.rest;
       begun = c.leave_all_open.ensures ∙ ap (λ (gs : List Entry). with_begun (made_of old) (gs ∷ [])) are.entries;
     }

@@ -29,12 +29,12 @@ returns-in-Ok-clause-told g c =
     let hold : ℕ = c.args.held in
     let rows = store_in c.args.tables.now in
     let told = c.in-Ok.ensures in
-    let anew : journal_in c.at_rest-self.result ≡ c.in-Ok.relaid.switched.journal = c.at_rest-self.ensures.journal in
+    let anew : journal_in c.at_rest.result ≡ c.in-Ok.relaid.switched.journal = c.at_rest.ensures.journal in
     let of = of_store modelled life old c.args.active.now c.requires.active c.args.tables.now.tables c.requires.pages c.requires.going in
     record {
-      stays = record { size = told.size; rest = c.at_rest-self.ensures.rest; made = refl };
+      stays = record { size = told.size; rest = c.at_rest.ensures.rest; made = refl };
       moments = of (λ (s : Store). LeavesOnly (life (disk_of old)) disk (Moment base s rows es hold)) told.any_moment;
-      switched = of (λ (s : Store). IsSwitched modelled disk base s rows es hold (journal_in c.at_rest-self.result))
+      switched = of (λ (s : Store). IsSwitched modelled disk base s rows es hold (journal_in c.at_rest.result))
           (λ rests apart. subst (λ (j : Journal). IsSwitched modelled disk base (store_of c.args.active.now) rows es hold j) (sym anew) (to_switched modelled disk base (store_of c.args.active.now) rows es hold c.in-Ok.relaid.switched (told.done rests apart).anew));
       held = ap (λ (j : Journal). held_of j) anew ∙ told.laid.held_back;
       layout = refl;
@@ -48,9 +48,9 @@ returns-in-Ok-clause-pages g c there =
     let old = c.args.self.now in
     let told = c.in-Ok.ensures in
     let s = c.in-Ok.relaid.switched in
-    let new : DiskRecorder g.row.D.Denot = record old { pager = c.write_checkpoint.new.disk; staged = c.at_rest-self.result; layout = Two } in
+    let new : DiskRecorder g.row.D.Denot = record old { pager = c.write_checkpoint.new.disk; staged = c.at_rest.result; layout = Two } in
     switched g.D.Disk.is_modelled g.D.Disk.life old new c.args.tables.now.tables c.requires.pages told.size c.requires.going c.args.active.now c.requires.active there
-    c.relaid.new.self.tables s (store_in c.args.tables.now) (entries_of c.args.records.now) c.args.held c.at_rest-self.ensures.journal (c.relaid.ensures.inside s.active.region.at told.laid.inside_half) told.laid.front
+    c.relaid.new.self.tables s (store_in c.args.tables.now) (entries_of c.args.records.now) c.args.held c.at_rest.ensures.journal (c.relaid.ensures.inside s.active.region.at told.laid.inside_half) told.laid.front
     (λ from end away. c.relaid.ensures.apart from end (told.laid.apart from end away)) (λ rests apart. (told.done rests apart).anew) (λ rests apart. c.relaid.ensures.stand (g.D.Disk.life c.write_checkpoint.new.disk).seen (told.done rests apart).stand)
 
 pub returns-in-Err-NoMemory-clause-told : goal.returns-in-Err-NoMemory-clause-told

@@ -6,4 +6,4 @@ use Rattle.row_pages.proofs.kept.KeptPage.len.Goals as goal
 pub returns : goal.returns
 returns c =
     let starts = c.self.inside.starts in
-    omega (arith, c.len.ensures, starts.ok.0, rows_count (length starts.items) (drop 3 c.self.inside.bytes.items) c.self.invariant.rows.has, ap (λ (p : Page). length p.rows) c.self.view_is)
+    omega (arith, c.len.ensures, starts.ok.0, rows_count (length starts.items) (drop 3 c.self.inside.bytes.items) c.self.invariant.places.rows.has, ap (λ (p : Page). length p.rows) c.self.view_is)
