@@ -56,16 +56,13 @@ fn commits() -> [GroupCall; 2] {
 // A group is laid ahead where its calls may be made together, and all is as it was: each commits alone then, with a record.
 #[test]
 fn lays_a_group_ahead(rt: HostRuntime) -> Result<(), Fail> {
-    let mut bench = Bench::new(rt.alloc(), 2);
+    let mut bench = Bench::new(rt.alloc(), 3);
     let commits = commits();
     let none = bench.lay_ahead(&commits);
     let created = rows_for(rt.alloc(), &mut bench, 1, CREATE);
-    let other = rows_for(
-        rt.alloc(),
-        &mut bench,
-        2,
-        "CREATE TABLE U (K INTEGER NOT NULL, PRIMARY KEY (K))",
-    );
+    drop(bench.commit(1));
+    let one = rows_for(rt.alloc(), &mut bench, 1, INSERT);
+    let other = rows_for(rt.alloc(), &mut bench, 2, "INSERT INTO T VALUES (2)");
     let laid = bench.lay_ahead(&commits);
     bench.refuse_reads(Some(ReadError::DeviceFailed));
     let failed = bench.lay_ahead(&commits);
@@ -77,7 +74,7 @@ fn lays_a_group_ahead(rt: HostRuntime) -> Result<(), Fail> {
     let left = bench.counts()[0];
     drop(bench);
     assert!(rt; none.is_none() && alone.is_none());
-    assert!(rt; created == Some(0) && other == Some(0));
+    assert!(rt; created == Some(0) && one == Some(1) && other == Some(1));
     assert!(rt; laid == Some((Ok(true), 2)));
     assert!(rt; failed == Some((Err(DeviceFailed), 2)));
     assert!(rt; wide == Some((Ok(false), 2)));
