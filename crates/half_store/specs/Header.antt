@@ -4,6 +4,7 @@ use Rattle.std.specs.Prelude.{ℕ, ◌+◌, ◌*◌, ◌==◌, ◌&&◌, ◌<◌
 use Rattle.std.specs.List.{list_all}
 use Rattle.std.specs.Int.{w32, w64, from_be_bytes}
 use Rattle.drda_words.specs.Place.{part}
+use Rattle.drda_disk.specs.Layout.{open_gate}
 use Rattle.half_store.specs.declared.header.Header.{Header}
 use Rattle.half_store.specs.declared.header.Layout.{Layout}
 use Rattle.half_store.specs.declared.header.Layout.TheVariants.{One, Two}
@@ -38,7 +39,7 @@ opened h page (Some layout) = if is_inside h (header_in layout page) && list_all
 
 -- What the page says of its half. The gate is open where it is A5; behind any other byte nothing is read.
 unfoldable pub half_in : ℕ → List ℕ → HalfState
-half_in h page = if slice_index page 0 == 165 then opened h page (layout_of (from_be_bytes w32 (part page 21 4))) else Closed
+half_in h page = if slice_index page 0 == open_gate then opened h page (layout_of (from_be_bytes w32 (part page 21 4))) else Closed
 
 -- a half that is open has room for its pages and a gate
 abbrev pub HasRoom : ℕ → HalfState → Type 0

@@ -5,9 +5,9 @@ ghost use Rattle.half_store.specs.Active.{picked, with_half};
 ghost use Rattle.half_store.specs.Opened.{Tells, IsBehindPages, store_of, CountsOpen};
 
 use crate::header::HalfState;
-use crate::layout::{FIRST_AT, PAGE_BYTES};
+use crate::layout::FIRST_AT;
 use crate::{Half, Header, Layout, OpenError};
-use drda_disk::Region;
+use drda_disk::{PAGE_BYTES, Region};
 
 /// The half of a store that counts, and the name of its database.
 #[derive(Debug, Drop)]

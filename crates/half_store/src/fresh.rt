@@ -3,9 +3,8 @@ ghost use Rattle.std.specs.Prelude.{◌≡◌, ◌-◌, ◌≤◌, ◌++◌, OnO
 ghost use Rattle.half_store.specs.Fresh.{zeros, head_bytes, header_bytes, front_bytes};
 
 use crate::head::{LAYOUT, MARK_BYTES};
-use crate::header::OPEN;
-use crate::layout::PAGE_BYTES;
 use crate::{Header, Layout};
+use drda_disk::{OPEN_GATE, PAGE_BYTES};
 use std::alloc::{AllocError, Global};
 
 /// The header of a store's first image.
@@ -86,7 +85,7 @@ pub(crate) fn fresh_front(alloc: Global, size: usize, name: &str) -> Result<Vec<
     let mut bytes = Vec::with_capacity(alloc, HEAD_PAGE_BYTES + PAGE_BYTES + 1)?;
     push_head(&mut bytes, size, name)?;
     pad(&mut bytes, HEAD_PAGE_BYTES)?;
-    bytes.push(OPEN)?;
+    bytes.push(OPEN_GATE)?;
     push_header(&mut bytes, FIRST_HEADER)?;
     pad(&mut bytes, HEAD_PAGE_BYTES + PAGE_BYTES + 1)?;
     Ok(bytes)

@@ -5,10 +5,7 @@ ghost use Rattle.std.specs.Int.{w32, from_be_bytes};
 ghost use Rattle.drda_words.specs.Place.{part};
 ghost use Rattle.half_store.specs.Header.{header_in, is_inside, half_in, layout_of, layout_word, opened, HasRoom};
 
-use crate::layout::PAGE_BYTES;
-
-/// An open gate: its half counts. Any other byte is a closed gate.
-pub(crate) const OPEN: u8 = 0xA5;
+use drda_disk::{OPEN_GATE, PAGE_BYTES};
 
 /// The offset of the layout in a header page.
 const LAYOUT_AT: usize = 21;
@@ -165,7 +162,7 @@ pub(crate) fn half_in(half_bytes: usize, page: &[u8]) -> HalfState
     ensures state { result ≡ half_in half_bytes page.now }
     ensures room { HasRoom half_bytes result }
 {
-    if page[0] != OPEN {
+    if page[0] != OPEN_GATE {
         return HalfState::Closed;
     }
     match layout_in(page) {

@@ -2,8 +2,7 @@
 ghost use Rattle.std.specs.Prelude.{◌≡◌, ◌+◌, ◌*◌, ◌^◌, ◌<◌, ◌≤◌, IsTrue};
 ghost use Rattle.half_store.specs.Layout.{is_store_size, half_len, are_printable};
 
-/// The bytes of a page.
-pub(crate) const PAGE_BYTES: usize = 8_192;
+use drda_disk::PAGE_BYTES;
 
 /// The offset of the first half: behind the page of the head.
 pub const FIRST_AT: usize = PAGE_BYTES;

@@ -13,7 +13,7 @@ mod open;
 mod record;
 mod staged;
 
-pub use errors::{AppendError, Full, LayError, OpenError};
+pub use errors::{LayError, OpenError};
 pub use journal::Journal;
 pub use kind::Kind;
 pub use laid_group::LaidGroup;

@@ -7,9 +7,9 @@ ghost use Rattle.unit_journal.specs.Record.{Entry};
 ghost use Rattle.unit_journal.specs.Stands.{Stands};
 ghost use Rattle.unit_journal.specs.Open.{ReadsNext, IsWhole, CountsOpen};
 
-use crate::record::{HEAD, OPEN};
+use crate::record::HEAD;
 use crate::{Journal, Kind, OpenError, Record};
-use drda_disk::{Disk, Region, read_bytes};
+use drda_disk::{Disk, OPEN_GATE, Region, read_bytes};
 use std::alloc::Global;
 
 /// A number by its four bytes.
@@ -37,7 +37,7 @@ fn read_last_gate<D: Disk>(
 {
     let mut gate = [0u8; 1];
     disk.read_at(at, &mut gate)?;
-    if gate[0] != OPEN {
+    if gate[0] != OPEN_GATE {
         return Ok(None);
     }
     Err(OpenError::Damaged { at })
@@ -63,7 +63,7 @@ fn read_record<D: Disk>(
     }
     let mut head = [0u8; HEAD];
     disk.read_at(at, &mut head)?;
-    if head[0] != OPEN {
+    if head[0] != OPEN_GATE {
         return Ok(None);
     }
     let Some(kind) = Kind::from_code(head[1]) else {
