@@ -9,8 +9,8 @@ ghost use Rattle.checkpoint_writer.specs.ReadCatalogue.{CountsCatalogue, ReadsBy
 
 use crate::StoredTable;
 use crate::entry::read_entry;
-use drda_disk::Disk;
-use row_pages::{KeptPage, PAGE_BYTES, PageFault, PageKind, Pager, one_laying, one_page};
+use drda_disk::{Disk, PAGE_BYTES};
+use row_pages::{KeptPage, PageFault, PageKind, Pager, one_laying, one_page};
 use row_values::ReadError;
 use std::alloc::Global;
 use thiserror::Error;

@@ -7,7 +7,7 @@ ghost use Rattle.half_store.specs.Active.{is_marked};
 ghost use Rattle.half_store.specs.Fresh.{IsUnmarked};
 ghost use Rattle.store_files.specs.Stores.{IsOfDevice};
 
-use drda_disk::{Disk, ReadFault, read_bytes};
+use drda_disk::{Disk, DiskError, read_bytes};
 use half_store::FIRST_AT;
 use std::alloc::Global;
 use store_files::Fault;
@@ -62,8 +62,8 @@ fn copy_some<D: Disk, E: Disk>(
 {
     let bytes = match read_bytes(alloc, old, from, count) {
         Ok(bytes) => bytes,
-        Err(ReadFault::NoMemory) => return Err(Fault::NoMemory),
-        Err(ReadFault::DeviceFailed) => return Err(Fault::Device),
+        Err(DiskError::NoMemory) => return Err(Fault::NoMemory),
+        Err(DiskError::DeviceFailed) => return Err(Fault::Device),
     };
     match new.write_at(at, &bytes) {
         Ok(()) => Ok(()),

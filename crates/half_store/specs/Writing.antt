@@ -6,7 +6,7 @@ use Rattle.drda_disk.specs.declared.errors.DiskError.{DiskError}
 use Rattle.drda_disk.specs.declared.errors.DiskError.TheVariants as disk
 use Rattle.drda_disk.specs.declared.errors.WriteError.{WriteError}
 use Rattle.drda_disk.specs.declared.errors.WriteError.TheVariants as write
-use Rattle.drda_disk.specs.Layout.{open_gate}
+use Rattle.drda_disk.specs.Layout.{open_gate, page_bytes}
 use Rattle.half_store.specs.Layout.{half_len, offset_of, other_than}
 use Rattle.half_store.specs.Active.{Store, active_of}
 use Rattle.half_store.specs.declared.layout.Half.{Half}
@@ -32,7 +32,7 @@ abbrev pub from_of : ImageWriter → ℕ
 from_of w = offset_of w.half_bytes w.half
 
 abbrev pub next_of : ImageWriter → ℕ
-next_of w = from_of w + 8192 * (1 + w.pages)
+next_of w = from_of w + page_bytes * (1 + w.pages)
 
 -- An image has this store's active half, and outside of n bytes from an offset on it is another image.
 pub record IsKept (base : List ℕ) (store : Store) (at n : ℕ) (image : List ℕ) : Type 0 where
@@ -81,5 +81,5 @@ pub record GoesOn {T : Type 0} (result : Result T WriteError) (w after : ImageWr
 
 -- That there is no room for a page more is told exactly where there is none, and before anything is written.
 pub record TellsPage {T : Type 0} (result : Result T WriteError) (w : ImageWriter) (Unwritten : Type 0) : Type 0 where
-  pub full : SaysFull result (8192 * (2 + pages_of w) + 1) (half_bytes_of w)
+  pub full : SaysFull result (page_bytes * (2 + pages_of w) + 1) (half_bytes_of w)
   pub unwritten : OnFull result Unwritten

@@ -1,5 +1,6 @@
 //! The bytes of a store's pages.
 ghost use Rattle.std.specs.Prelude.{◌≡◌, ◌-◌, ◌≤◌, ◌++◌, OnOk, IfOk, length};
+ghost use Rattle.drda_disk.specs.Layout.{page_bytes};
 ghost use Rattle.half_store.specs.Fresh.{zeros, head_bytes, header_bytes, front_bytes};
 
 use crate::head::{LAYOUT, MARK_BYTES};
@@ -56,8 +57,8 @@ fn pad(bytes: &mut Vec<u8>, to: usize) -> Result<(), AllocError>
 
 /// A page of zeros.
 pub(crate) fn blank_page(alloc: Global) -> Result<Vec<u8>, AllocError>
-    ensures items { IfOk result (λ bytes. bytes.items ≡ zeros 8192) }
-    ensures len { IfOk result (λ bytes. length bytes.items ≡ 8192) }
+    ensures items { IfOk result (λ bytes. bytes.items ≡ zeros page_bytes) }
+    ensures len { IfOk result (λ bytes. length bytes.items ≡ page_bytes) }
 {
     let mut bytes = Vec::with_capacity(alloc, PAGE_BYTES)?;
     pad(&mut bytes, PAGE_BYTES)?;

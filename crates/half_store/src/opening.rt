@@ -3,6 +3,7 @@ ghost use Rattle.std.specs.Prelude.{◌≡◌, ◌+◌, ◌≤◌, IsTrue, OnOk,
 ghost use Rattle.drda_words.specs.Place.{part};
 ghost use Rattle.drda_disk.specs.Disk.{Stays};
 ghost use Rattle.drda_disk.specs.Errors.{CountsError};
+ghost use Rattle.drda_disk.specs.Layout.{page_bytes};
 ghost use Rattle.half_store.specs.Layout.{half_len, is_store_size};
 ghost use Rattle.half_store.specs.Header.{half_in, HasRoom};
 ghost use Rattle.half_store.specs.Active.{active_of};
@@ -23,8 +24,8 @@ fn read_half<D: Disk>(
     half_bytes: usize,
     at: usize,
 ) -> Result<HalfState, DiskError>
-    requires { at + 8192 ≤ length (D.life disk.old).seen }
-    ensures state { IfOk result (λ state. IsTrue D.is_modelled → state ≡ half_in half_bytes (part (D.life disk.old).seen at 8192)) }
+    requires { at + page_bytes ≤ length (D.life disk.old).seen }
+    ensures state { IfOk result (λ state. IsTrue D.is_modelled → state ≡ half_in half_bytes (part (D.life disk.old).seen at page_bytes)) }
     ensures room { IfOk result (HasRoom half_bytes) }
     ensures stays { Stays (D.life disk.old) (D.life disk.new) }
     ensures cause { CountsError result (D.life disk.old).faults (D.life disk.new).faults }

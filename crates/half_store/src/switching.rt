@@ -2,7 +2,7 @@
 ghost use Rattle.std.specs.Prelude.{◌≡◌, ◌+◌, ◌-◌, ◌^◌, ◌<◌, ◌≤◌, ℕ, List, [], ◌∷◌, IsTrue, length, OnOk, IfOk};
 ghost use Rattle.drda_disk.specs.Disk.{Only, Torn, LeavesOnly, Within, overlaid, CountsFault};
 ghost use Rattle.drda_disk.specs.Errors.{OnNoMemory, CountsError};
-ghost use Rattle.drda_disk.specs.Layout.{open_gate};
+ghost use Rattle.drda_disk.specs.Layout.{open_gate, page_bytes};
 ghost use Rattle.half_store.specs.Active.{active_of};
 ghost use Rattle.half_store.specs.Opened.{store_of, IsToldAs};
 ghost use Rattle.half_store.specs.Writing.{IsWriting, half_bytes_of, pages_of, from_of};
@@ -55,7 +55,7 @@ impl ImageWriter {
             active_of (D.life disk.new).seen ≡ Ok (switched (store_of active.now) self first_catalogue catalogue_pages)) }
         ensures durable { OnOk result (Only (D.life disk.new)) }
         ensures told { IfOk result (IsToldAs (switched (store_of active.now) self first_catalogue catalogue_pages) (half_bytes_of self)) }
-        ensures others { Torn (from_of self) 8192 (D.life disk.old).seen (D.life disk.new).seen }
+        ensures others { Torn (from_of self) page_bytes (D.life disk.old).seen (D.life disk.new).seen }
         ensures refused { OnNoMemory result (disk.new ≡ disk.old) }
         ensures cause { CountsError result (D.life disk.old).faults (D.life disk.new).faults }
     {

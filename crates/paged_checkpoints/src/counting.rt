@@ -16,10 +16,10 @@ ghost use Rattle.paged_tables.specs.TablesByName.{AreOnPages, LieInside};
 ghost use Rattle.paged_checkpoints.specs.Laying.{all_shown, created_entry};
 
 use checkpoint_writer::count_entry;
-use drda_disk::Disk;
+use drda_disk::{Disk, PAGE_BYTES};
 use key_map::laws::rows_have_their_forms;
 use paged_tables::{TableRef, TablesLeft};
-use row_pages::{PAGE_BYTES, PageCount, PageFault};
+use row_pages::{PageCount, PageFault};
 use std::alloc::{AllocError, Global};
 use table_map::SchemaKeys;
 use unit_journal::{Record, laid_len};

@@ -14,10 +14,10 @@ ghost use Rattle.paged_tables.specs.TablesByName.{AddsPages, AreOnPages, ComesLa
 ghost use Rattle.paged_checkpoints.specs.Opening.{OpensCheckpoint, StandsIn, StandsOutside, name_in, noted_table, opened_of};
 
 use checkpoint_writer::StoredTable;
-use drda_disk::Disk;
+use drda_disk::{Disk, PAGE_BYTES};
 use half_store::Active;
 use paged_tables::{PagedTables, rows_stand_at_their_forms};
-use row_pages::{PAGE_BYTES, Pager};
+use row_pages::Pager;
 use row_values::is_name;
 use std::alloc::{AllocError, Global};
 use store_check::{

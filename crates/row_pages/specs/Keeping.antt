@@ -1,8 +1,8 @@
 -- Pages that are kept in memory.
 use Rattle.std.specs.Prelude.{◌≡◌, ◌≤◌, ◌+◌, ℕ, List, length, drop, true, Option, Some, None, Result, Ok, Err, Contains}
 use Rattle.drda_words.specs.Place.{part}
-use Rattle.drda_disk.specs.declared.through.ReadFault.{ReadFault}
-use Rattle.drda_disk.specs.declared.through.ReadFault.TheVariants as read
+use Rattle.drda_disk.specs.declared.errors.DiskError.{DiskError}
+use Rattle.drda_disk.specs.declared.errors.DiskError.TheVariants as read
 use Rattle.row_pages.specs.Page.{IsPage, Page, rows_bytes}
 use Rattle.row_pages.specs.Reading.{has_rows, rows_in, row_starts}
 use Rattle.row_pages.specs.declared.page.PageKind.{PageKind}
@@ -47,7 +47,7 @@ pub record BeginWithin (first last : ℕ) (kept : Kept) : Type 0 where
   pub each : (e : ℕ × Page) → Contains kept e → (first ≤ e.0) × (e.0 ≤ last)
 
 -- the fault of a read, as one of a page
-abbrev pub fault_of : ReadFault → PageFault
+abbrev pub fault_of : DiskError → PageFault
 fault_of read.NoMemory = NoMemory
 fault_of read.DeviceFailed = DeviceFailed
 

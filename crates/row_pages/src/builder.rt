@@ -6,7 +6,8 @@ ghost use Rattle.row_pages.specs.Filling.{Pushes};
 ghost use Rattle.row_pages.specs.Laying.{IsShort, Lays};
 
 use crate::kept::KeptPage;
-use crate::page::{HEADER_BYTES, PAGE_BYTES, PageKind};
+use crate::page::{HEADER_BYTES, PageKind};
+use drda_disk::PAGE_BYTES;
 use std::alloc::{AllocError, Global};
 use std::marker::Model;
 use std::mem;

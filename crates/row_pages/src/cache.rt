@@ -10,8 +10,7 @@ ghost use Rattle.row_pages.specs.declared.kept.PageFault.TheVariants.{NoMemory};
 
 use crate::judged::JudgedPage;
 use crate::kept::{KeptPage, PageFault, read_page};
-use crate::page::PAGE_BYTES;
-use drda_disk::Disk;
+use drda_disk::{Disk, PAGE_BYTES};
 use lru::LruCache;
 use row_values::Schema;
 use std::alloc::{AllocError, Global};

@@ -10,9 +10,9 @@ ghost use Rattle.row_pages.specs.Parsing.{ParsesKept};
 ghost use Rattle.row_pages.specs.Reading.{rows_in};
 ghost use Rattle.row_pages.specs.Keeping.{CountsPageFault, TellsDamage};
 
-use crate::page::{HEADER_BYTES, PAGE_BYTES, PageKind, PageRef, head_of, is_zero};
+use crate::page::{HEADER_BYTES, PageKind, PageRef, head_of, is_zero};
 use crate::rows::{first_row, from_place, place_rows};
-use drda_disk::{Disk, ReadFault, read_bytes};
+use drda_disk::{Disk, DiskError, PAGE_BYTES, read_bytes};
 use std::alloc::Global;
 use std::marker::Model;
 use thiserror::Error;
@@ -28,16 +28,16 @@ pub enum PageFault {
     Damaged,
 }
 
-impl From<ReadFault> for PageFault {
+impl From<DiskError> for PageFault {
     ghost use Rattle.std.specs.Prelude.{◌≡◌};
     ghost use Rattle.row_pages.specs.Keeping.{fault_of};
 
     ghost from_gives = { λ e f. f ≡ fault_of e };
 
-    fn from(fault: ReadFault) -> Self {
+    fn from(fault: DiskError) -> Self {
         match fault {
-            ReadFault::NoMemory => PageFault::NoMemory,
-            ReadFault::DeviceFailed => PageFault::DeviceFailed,
+            DiskError::NoMemory => PageFault::NoMemory,
+            DiskError::DeviceFailed => PageFault::DeviceFailed,
         }
     }
 }

@@ -10,9 +10,9 @@ ghost use Rattle.store_check.specs.Halving.{ChecksForm, TellsFirst, first_of};
 
 use crate::CheckError;
 use crate::half::pages_at;
-use drda_disk::Disk;
+use drda_disk::{Disk, PAGE_BYTES};
 use half_store::Active;
-use row_pages::{KeptPage, PAGE_BYTES, PageFault, PageKind, Pager, one_page};
+use row_pages::{KeptPage, PageFault, PageKind, Pager, one_page};
 use std::alloc::Global;
 
 /// The kind of the page with a number.

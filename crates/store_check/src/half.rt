@@ -15,9 +15,9 @@ use crate::form::first_damage;
 use crate::keys::KeysOf;
 use crate::{CheckError, KeysBySchema, check_catalogue, check_table};
 use checkpoint_writer::StoredTable;
-use drda_disk::Disk;
+use drda_disk::{Disk, PAGE_BYTES};
 use half_store::Active;
-use row_pages::{PAGE_BYTES, Pager};
+use row_pages::Pager;
 use std::alloc::Global;
 use table_map::NotedPages;
 

@@ -10,8 +10,8 @@ ghost use Rattle.store_check.specs.declared.errors.CheckError.TheVariants.{NoMem
 
 use crate::CheckError;
 use checkpoint_writer::{CatalogueError, StoredTable, read_catalogue};
-use drda_disk::Disk;
-use row_pages::{PAGE_BYTES, Pager, one_page};
+use drda_disk::{Disk, PAGE_BYTES};
+use row_pages::{Pager, one_page};
 use std::alloc::Global;
 use std::cmp::Ordering;
 

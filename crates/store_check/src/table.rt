@@ -8,8 +8,8 @@ ghost use Rattle.store_check.specs.declared.errors.CheckError.TheVariants.{NoMem
 
 use crate::CheckError;
 use crate::page::check_page;
-use drda_disk::Disk;
-use row_pages::{PAGE_BYTES, Pager, one_page};
+use drda_disk::{Disk, PAGE_BYTES};
+use row_pages::{Pager, one_page};
 use row_values::Schema;
 use std::alloc::Global;
 use table_map::{NotedPages, NotedRows, RowKeys, TablePages};

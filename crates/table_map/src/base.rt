@@ -8,8 +8,8 @@ ghost use Rattle.table_map.specs.Damage.{DamagedWhere, HasNoRows};
 ghost use Rattle.table_map.specs.Keyed.{seen};
 ghost use Rattle.table_map.specs.Walk.{GivesRow, IsFirstRow, IsLoaded, Loads, TakesPage, page_rows};
 
-use drda_disk::Disk;
-use row_pages::{KeptPage, PAGE_BYTES, PageFault, read_page};
+use drda_disk::{Disk, PAGE_BYTES};
+use row_pages::{KeptPage, PageFault, read_page};
 use std::alloc::Global;
 use std::marker::Model;
 

@@ -7,7 +7,7 @@ ghost use Rattle.unit_journal.specs.Record.{laid, behind, entry_of, entries_of};
 ghost use Rattle.unit_journal.specs.Stands.{Stands};
 ghost use Rattle.unit_journal.specs.Errors.{SaysFullToLay, OnRefusedToLay, CountsLay};
 
-use crate::record::{CLOSED, HEAD, head_of};
+use crate::record::{CLOSED, HEAD_BYTES, head_of};
 use crate::{Journal, LayError, Record};
 use drda_disk::{Disk, Full, Region};
 use std::alloc::{AllocError, Global};
@@ -18,7 +18,9 @@ pub fn laid_len(records: &[Record]) -> usize
 {
     let mut sum = 0usize;
     for item in records {
-        sum = sum.saturating_add(HEAD).saturating_add(item.body.len());
+        sum = sum
+            .saturating_add(HEAD_BYTES)
+            .saturating_add(item.body.len());
     }
     sum
 }

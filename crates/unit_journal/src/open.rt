@@ -7,7 +7,7 @@ ghost use Rattle.unit_journal.specs.Record.{Entry};
 ghost use Rattle.unit_journal.specs.Stands.{Stands};
 ghost use Rattle.unit_journal.specs.Open.{ReadsNext, IsWhole, CountsOpen};
 
-use crate::record::HEAD;
+use crate::record::HEAD_BYTES;
 use crate::{Journal, Kind, OpenError, Record};
 use drda_disk::{Disk, OPEN_GATE, Region, read_bytes};
 use std::alloc::Global;
@@ -58,10 +58,10 @@ fn read_record<D: Disk>(
     ensures cause { CountsOpen result (D.life disk.old).faults (D.life disk.new).faults }
 {
     let room = limit - at - 1;
-    if room < HEAD {
+    if room < HEAD_BYTES {
         return read_last_gate(disk, at, limit);
     }
-    let mut head = [0u8; HEAD];
+    let mut head = [0u8; HEAD_BYTES];
     disk.read_at(at, &mut head)?;
     if head[0] != OPEN_GATE {
         return Ok(None);
@@ -70,10 +70,10 @@ fn read_record<D: Disk>(
         return Err(OpenError::Damaged { at });
     };
     let len = number_of([head[2], head[3], head[4], head[5]]) as usize;
-    if len > room - HEAD {
+    if len > room - HEAD_BYTES {
         return Err(OpenError::Damaged { at });
     }
-    let body = read_bytes(alloc, disk, at + HEAD, len)?;
+    let body = read_bytes(alloc, disk, at + HEAD_BYTES, len)?;
     Ok(Some(Record { at, kind, body }))
 }
 
@@ -108,7 +108,7 @@ impl Journal {
         let mut records = Vec::new(alloc);
         let mut at = region.at;
         while let Some(record) = read_record(alloc, disk, at, limit)? {
-            at += HEAD + record.body.len();
+            at += HEAD_BYTES + record.body.len();
             records.push(record)?;
         }
         let journal = Journal {

@@ -10,8 +10,8 @@ use drda_disk::OPEN_GATE;
 /// What a journal writes to close a gate. Behind one nothing is read.
 pub(crate) const CLOSED: u8 = 0;
 
-/// The bytes before a record's body: its gate, its kind, and the length of the body in four bytes.
-pub(crate) const HEAD: usize = 6;
+/// The bytes of a record in front of its body: its gate, its kind, and the length of the body in four bytes.
+pub const HEAD_BYTES: usize = 6;
 
 /// A record: its gate's offset on the disk, its kind and its body, of less than 2^32 bytes. Where
 /// records are written, `at` is not read.
