@@ -3,6 +3,7 @@ use Rattle.std.specs.Prelude.{◌≡◌, ◌≤◌, ◌+◌, ℕ, List, length, 
 use Rattle.drda_words.specs.Place.{part}
 use Rattle.drda_disk.specs.declared.errors.DiskError.{DiskError}
 use Rattle.drda_disk.specs.declared.errors.DiskError.TheVariants as read
+use Rattle.drda_disk.specs.Layout.{page_bytes}
 use Rattle.row_pages.specs.Page.{IsPage, Page, rows_bytes}
 use Rattle.row_pages.specs.Reading.{has_rows, rows_in, row_starts}
 use Rattle.row_pages.specs.declared.page.PageKind.{PageKind}
@@ -40,7 +41,7 @@ Kept = List (ℕ × Page)
 
 -- each page kept is what a disk with these bytes reads at its place
 pub record AreRead (kept : Kept) (file : List ℕ) : Type 0 where
-  pub each : (e : ℕ × Page) → Contains kept e → IsPage e.1 (part file e.0 8192)
+  pub each : (e : ℕ × Page) → Contains kept e → IsPage e.1 (part file e.0 page_bytes)
 
 -- no page kept begins in front of one offset, or behind another
 pub record BeginWithin (first last : ℕ) (kept : Kept) : Type 0 where

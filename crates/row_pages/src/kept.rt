@@ -4,6 +4,7 @@ ghost use Rattle.std.specs.Prelude.{◌≡◌, ◌≤◌, ◌<◌, ◌+◌, IsTr
 ghost use Rattle.std.specs.List.{slice_get};
 ghost use Rattle.drda_words.specs.Place.{part};
 ghost use Rattle.drda_disk.specs.Disk.{Stays};
+ghost use Rattle.drda_disk.specs.Layout.{page_bytes};
 ghost use Rattle.row_pages.specs.Filling.{IsFilled};
 ghost use Rattle.row_pages.specs.Page.{IsPage};
 ghost use Rattle.row_pages.specs.Parsing.{ParsesKept};
@@ -139,9 +140,9 @@ impl KeptPage {
 /// cache keeps it. The range lies inside the disk. `Damaged` is told only where the bytes there are no
 /// page.
 pub fn read_page<D: Disk>(alloc: Global, disk: &mut D, at: usize) -> Result<KeptPage, PageFault>
-    requires { at + 8192 ≤ length (D.life disk.old).seen }
-    ensures page { IfOk result (λ page. IsTrue D.is_modelled → IsPage page (part (D.life disk.old).seen at 8192)) }
-    ensures damaged { IsTrue D.is_modelled → TellsDamage (part (D.life disk.old).seen at 8192) result }
+    requires { at + page_bytes ≤ length (D.life disk.old).seen }
+    ensures page { IfOk result (λ page. IsTrue D.is_modelled → IsPage page (part (D.life disk.old).seen at page_bytes)) }
+    ensures damaged { IsTrue D.is_modelled → TellsDamage (part (D.life disk.old).seen at page_bytes) result }
     ensures stays { Stays (D.life disk.old) (D.life disk.new) }
     ensures faults { CountsPageFault result (D.life disk.old).faults (D.life disk.new).faults }
 {

@@ -1,6 +1,7 @@
 //! All pages of a table.
 ghost use Rattle.std.specs.Prelude.{◌≡◌, ◌+◌, ◌*◌, ◌^◌, ◌≤◌, ◌++◌, ◌∷◌, [], ℕ, List, IsTrue, IfErr, IfOk, OnOk, length};
 ghost use Rattle.drda_disk.specs.Disk.{Stays};
+ghost use Rattle.drda_disk.specs.Layout.{page_bytes};
 ghost use Rattle.row_pages.specs.Laying.{rows_over};
 ghost use Rattle.store_check.specs.Errors.{CountsCheck};
 ghost use Rattle.store_check.specs.Whole.{AreRows, ChecksTable, IsWhole, places_in};
@@ -42,8 +43,8 @@ pub fn check_table<K: RowKeys, D: Disk>(
     at: usize,
     count: usize,
 ) -> Result<NotedPages, CheckError>
-    requires small { at + 8192 * count ≤ 2 ^ 40 }
-    requires inside { at + 8192 * count ≤ length (D.life pager.old).seen }
+    requires small { at + page_bytes * count ≤ 2 ^ 40 }
+    requires inside { at + page_bytes * count ≤ length (D.life pager.old).seen }
     ensures at { IfOk result (λ table. table.pages.at ≡ at) }
     ensures count { IfOk result (λ table. length table.pages.keys ≡ count) }
     ensures told { IsTrue D.is_modelled → ChecksTable schema.now (K.key_of keys.now) (D.life pager.old).seen at count (places_in result) }
