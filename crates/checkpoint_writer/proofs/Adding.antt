@@ -7,10 +7,11 @@ use Rattle.drda_disk.proofs.Moments.{and_then, no_call, stays_leaves, Within-sta
 use Rattle.drda_disk.proofs.Parts.{Torn-trans, Torn-wider}
 use Rattle.half_store.specs.Layout.{offset_of}
 use Rattle.half_store.specs.Active.{Store}
-use Rattle.half_store.specs.Writing.{IsKept, IsWriting, half_of, half_bytes_of, generation_of, pages_of, from_of, next_of, SaysFull, OnFull}
+use Rattle.half_store.specs.Writing.{IsKept, IsWriting, half_of, half_bytes_of, generation_of, pages_of, from_of, next_of, SaysFull}
 use Rattle.half_store.specs.declared.image.ImageWriter.{ImageWriter}
-use Rattle.half_store.specs.declared.errors.PageError.{PageError}
-use Rattle.half_store.specs.declared.errors.PageError.TheVariants as page
+use Rattle.drda_disk.specs.Errors.{OnFull}
+use Rattle.drda_disk.specs.declared.errors.WriteError.{WriteError}
+use Rattle.drda_disk.specs.declared.errors.WriteError.TheVariants as write
 use Rattle.half_store.proofs.Kept.{kept_now, still_writing}
 use Rattle.checkpoint_writer.specs.Adding.{AddsPages, end_of_half}
 
@@ -69,17 +70,17 @@ and_more modelled old mid new w between after first second =
 wide : (w : ImageWriter) (old new : List ℕ) → 8192 * (2 + pages_of w) + 1 ≤ half_bytes_of w → Torn (next_of w) 8192 old new → Torn (next_of w) (end_of_half w - next_of w) old new
 wide w old new room torn = Torn-wider (next_of w) 8192 (next_of w) (end_of_half w - next_of w) old new (omega arith) (omega (arith, room)) torn
 
-page_torn : {P : Type 0} (w : ImageWriter) (old new : List ℕ) (result : Result (Unit {0}) PageError) → (P → new ≡ old) → SaysFull result (8192 * (2 + pages_of w) + 1) (half_bytes_of w) → OnFull result P
+page_torn : {P : Type 0} (w : ImageWriter) (old new : List ℕ) (result : Result (Unit {0}) WriteError) → (P → new ≡ old) → SaysFull result (8192 * (2 + pages_of w) + 1) (half_bytes_of w) → OnFull result P
     → Torn (next_of w) 8192 old new → Torn (next_of w) (end_of_half w - next_of w) old new
 page_torn w old new (Ok x) same says full torn = wide w old new says torn
-page_torn w old new (Err page.DeviceFailed) same says full torn = wide w old new says torn
-page_torn w old new (Err (page.Full f)) same says full torn = subst (λ (l : List ℕ). Torn (next_of w) (end_of_half w - next_of w) old l) (sym (same full)) (Torn-refl (next_of w) (end_of_half w - next_of w) old)
+page_torn w old new (Err write.DeviceFailed) same says full torn = wide w old new says torn
+page_torn w old new (Err (write.Full f)) same says full torn = subst (λ (l : List ℕ). Torn (next_of w) (end_of_half w - next_of w) old l) (sym (same full)) (Torn-refl (next_of w) (end_of_half w - next_of w) old)
 
-page_more : (w after : ImageWriter) (result : Result (Unit {0}) PageError) → OnOk result (pages_of after ≡ pages_of w + 1) → OnErr result (after ≡ w) → pages_of w ≤ pages_of after
+page_more : (w after : ImageWriter) (result : Result (Unit {0}) WriteError) → OnOk result (pages_of after ≡ pages_of w + 1) → OnErr result (after ≡ w) → pages_of w ≤ pages_of after
 page_more w after (Ok x) one same = omega (arith, one)
 page_more w after (Err e) one same = omega (arith, ap pages_of same)
 
-pub adds_page : {P : Type 0} (modelled : Bool) (old new : Life) (w after : ImageWriter) (result : Result (Unit {0}) PageError)
+pub adds_page : {P : Type 0} (modelled : Bool) (old new : Life) (w after : ImageWriter) (result : Result (Unit {0}) WriteError)
     → ((base : List ℕ) (store : Store) → IsWriting modelled old base store w → LeavesOnly old new (IsKept base store (from_of w + 1) (half_bytes_of w - 1)))
     → ((base : List ℕ) (store : Store) → IsWriting modelled old base store w → IsWriting modelled new base store after)
     → Torn (next_of w) 8192 old.seen new.seen → (half_of after ≡ half_of w) × (half_bytes_of after ≡ half_bytes_of w) × (generation_of after ≡ generation_of w)

@@ -15,10 +15,10 @@ use Rattle.half_store.specs.Switching.{IsOldOrNew, switched}
 use Rattle.half_store.specs.Writing.{IsKept, IsWriting, from_of, half_bytes_of, next_of, pages_of}
 use Rattle.half_store.specs.declared.image.ImageWriter.{ImageWriter}
 use Rattle.half_store.proofs.Kept.{still_writing, writing_kept}
-use Rattle.half_store.specs.Switching.{OnRefusedToSwitch}
-use Rattle.half_store.specs.declared.errors.SwitchError.{SwitchError}
-use Rattle.half_store.specs.declared.errors.SwitchError.TheVariants as switch
-use Rattle.checkpoint_writer.specs.Errors.{not_switched}
+use Rattle.drda_disk.specs.Errors.{OnNoMemory}
+use Rattle.drda_disk.specs.declared.errors.DiskError.{DiskError}
+use Rattle.drda_disk.specs.declared.errors.DiskError.TheVariants as disk
+use Rattle.checkpoint_writer.specs.Errors.{undone}
 use Rattle.checkpoint_writer.specs.Moment.{FitBehind, IsNew, IsSwitched, Moment, OnRefused, pages_in}
 use Rattle.checkpoint_writer.specs.declared.errors.ImageError.{ImageError}
 use Rattle.checkpoint_writer.specs.declared.ending.Switched.{Switched}
@@ -28,10 +28,10 @@ pub fit_there : (w : ImageWriter) (region : Region) (n : ℕ) → region.at ≡ 
 fit_there w region n begins ends some fit = omega (arith, begins, ends, some, fit)
 
 -- a switch that was refused has written nothing
-pub no_switch : {T S : Type 0} (P Q : Type 0) (e : SwitchError) (from : Result T SwitchError) (result : Result S ImageError) → from ≡ Err e → result ≡ Err (not_switched e) → (P → Q) → OnRefusedToSwitch from P → OnRefused result Q
-no_switch {T = T} {S = S} P Q switch.NoMemory from result was is f held =
-    subst (λ (r : Result S ImageError). OnRefused r Q) (sym is) (f (subst (λ (r : Result T SwitchError). OnRefusedToSwitch r P) was held))
-no_switch {S = S} P Q switch.DeviceFailed from result was is f held = subst (λ (r : Result S ImageError). OnRefused r Q) (sym is) tt
+pub no_switch : {T S : Type 0} (P Q : Type 0) (e : DiskError) (from : Result T DiskError) (result : Result S ImageError) → from ≡ Err e → result ≡ Err (undone e) → (P → Q) → OnNoMemory from P → OnRefused result Q
+no_switch {T = T} {S = S} P Q disk.NoMemory from result was is f held =
+    subst (λ (r : Result S ImageError). OnRefused r Q) (sym is) (f (subst (λ (r : Result T DiskError). OnNoMemory r P) was held))
+no_switch {S = S} P Q disk.DeviceFailed from result was is f held = subst (λ (r : Result S ImageError). OnRefused r Q) (sym is) tt
 
 module _ (base : List ℕ) (store : Store) (w : ImageWriter) where
   large : 8192 < half_bytes_of w

@@ -1,6 +1,7 @@
 -- Pages that are added to an image.
 use Rattle.std.specs.Prelude.{◌≡◌, ℕ, ◌+◌, ◌-◌, ◌*◌, ◌≤◌, Bool, List, length}
 use Rattle.drda_disk.specs.Disk.{Life, Torn, LeavesOnly}
+use Rattle.drda_disk.specs.Layout.{page_bytes}
 use Rattle.half_store.specs.Active.{Store}
 use Rattle.half_store.specs.Writing.{IsKept, IsWriting, half_of, half_bytes_of, generation_of, pages_of, from_of, next_of}
 use Rattle.half_store.specs.declared.image.ImageWriter.{ImageWriter}
@@ -25,4 +26,4 @@ pub record AddsPages (modelled : Bool) (old new : Life) (w after : ImageWriter) 
 -- these pages were added to an image, and no others
 pub record AreLast (w after : ImageWriter) (pages : Places) : Type 0 where
   pub at : pages.at ≡ next_of w
-  pub next : next_of after ≡ pages.at + 8192 * length pages.keys
+  pub next : next_of after ≡ pages.at + page_bytes * length pages.keys

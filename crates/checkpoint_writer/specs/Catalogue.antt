@@ -4,6 +4,7 @@ use Rattle.std.specs.List.{AllByRecursion}
 use Rattle.std.specs.Option.{option_and_then}
 use Rattle.std.specs.Int.{w32, from_be_bytes, to_be_bytes}
 use Rattle.drda_words.specs.Place.{part}
+use Rattle.drda_disk.specs.Layout.{page_bytes}
 use Rattle.row_values.specs.Schema.{Schema, is_name, is_schema}
 use Rattle.row_values.specs.Bytes.{name_at, named, schema_at, schema_bytes}
 use Rattle.row_pages.specs.Laying.{IsShort, laid}
@@ -66,13 +67,13 @@ pub record IsEntryPage (bytes : List ℕ) (entries : List Entry) : Type 0 where
 -- so many pages from an offset on have these entries
 abbrev pub HasEntries : List ℕ → ℕ → ℕ → List Entry → Type 0
 HasEntries file at zero entries = entries ≡ []
-HasEntries file at (suc n) entries = (first : List Entry) × (rest : List Entry) × IsEntryPage (part file at 8192) first × HasEntries file (at + 8192) n rest × (entries ≡ first ++ rest)
+HasEntries file at (suc n) entries = (first : List Entry) × (rest : List Entry) × IsEntryPage (part file at page_bytes) first × HasEntries file (at + page_bytes) n rest × (entries ≡ first ++ rest)
 
 -- the first of them that is no page of entries lies here
 abbrev pub IsDamagedAt : List ℕ → ℕ → ℕ → ℕ → Type 0
 IsDamagedAt file at zero d = ⊥
-IsDamagedAt file at (suc n) d = ((d ≡ at) × ((entries : List Entry) → IsEntryPage (part file at 8192) entries → ⊥))
-    ⊎ ((first : List Entry) × IsEntryPage (part file at 8192) first × IsDamagedAt file (at + 8192) n d)
+IsDamagedAt file at (suc n) d = ((d ≡ at) × ((entries : List Entry) → IsEntryPage (part file at page_bytes) entries → ⊥))
+    ⊎ ((first : List Entry) × IsEntryPage (part file at page_bytes) first × IsDamagedAt file (at + page_bytes) n d)
 
 abbrev pub rows_of : List Entry → List (List ℕ)
 rows_of [] = []

@@ -2,12 +2,10 @@
 use Rattle.std.specs.Prelude.{◌≡◌, ◌<◌, ◌≤◌, ℕ, ◌+◌, Result, Ok, Err}
 use Rattle.row_pages.specs.declared.kept.PageFault.{PageFault}
 use Rattle.row_pages.specs.declared.kept.PageFault.TheVariants as fault
-use Rattle.half_store.specs.declared.errors.PageError.{PageError}
-use Rattle.half_store.specs.declared.errors.PageError.TheVariants as page
-use Rattle.half_store.specs.declared.errors.BeginError.{BeginError}
-use Rattle.half_store.specs.declared.errors.BeginError.TheVariants as begin
-use Rattle.half_store.specs.declared.errors.SwitchError.{SwitchError}
-use Rattle.half_store.specs.declared.errors.SwitchError.TheVariants as switch
+use Rattle.drda_disk.specs.declared.errors.DiskError.{DiskError}
+use Rattle.drda_disk.specs.declared.errors.DiskError.TheVariants as disk
+use Rattle.drda_disk.specs.declared.errors.WriteError.{WriteError}
+use Rattle.drda_disk.specs.declared.errors.WriteError.TheVariants as write
 use Rattle.unit_journal.specs.declared.errors.LayError.{LayError}
 use Rattle.unit_journal.specs.declared.errors.LayError.TheVariants as lay
 use Rattle.checkpoint_writer.specs.declared.errors.ImageError.{ImageError}
@@ -18,22 +16,18 @@ error_of fault.NoMemory = NoMemory
 error_of fault.DeviceFailed = DeviceFailed
 error_of fault.Damaged = Damaged
 
-abbrev pub unwritten : PageError → ImageError
-unwritten (page.Full full) = Full full
-unwritten page.DeviceFailed = DeviceFailed
+abbrev pub unwritten : WriteError → ImageError
+unwritten (write.Full full) = Full full
+unwritten write.DeviceFailed = DeviceFailed
 
-abbrev pub not_begun : BeginError → ImageError
-not_begun begin.NoMemory = NoMemory
-not_begun begin.DeviceFailed = DeviceFailed
+abbrev pub undone : DiskError → ImageError
+undone disk.NoMemory = NoMemory
+undone disk.DeviceFailed = DeviceFailed
 
 abbrev pub not_laid : LayError → ImageError
 not_laid lay.NoMemory = NoMemory
-not_laid (lay.Full full) = Full (record { need = full.need; room = full.room })
+not_laid (lay.Full full) = Full full
 not_laid lay.DeviceFailed = DeviceFailed
-
-abbrev pub not_switched : SwitchError → ImageError
-not_switched switch.NoMemory = NoMemory
-not_switched switch.DeviceFailed = DeviceFailed
 
 -- the device has failed once more exactly where that is told
 abbrev pub CountsImage : {T : Type 0} → Result T ImageError → ℕ → ℕ → Type 0

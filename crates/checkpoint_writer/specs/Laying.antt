@@ -2,6 +2,7 @@
 use Rattle.std.specs.Prelude.{◌≡◌, ◌⊎◌, ℕ, ◌+◌, ◌*◌, Bool, true, false, IsTrue, List, [], ◌∷◌, ◌++◌, length}
 use Rattle.std.specs.List.{AllByRecursion}
 use Rattle.drda_words.specs.Place.{part}
+use Rattle.drda_disk.specs.Layout.{page_bytes}
 use Rattle.row_pages.specs.Page.{Fits, IsPage}
 use Rattle.row_pages.specs.Laying.{IsShort, laid, laid_behind}
 use Rattle.row_pages.specs.declared.page.PageKind.{PageKind}
@@ -12,7 +13,7 @@ use Rattle.checkpoint_writer.specs.declared.rows.RowWriter.{RowWriter}
 -- these are the pages of this kind from an offset on, one behind another
 abbrev pub StandAt : PageKind → List ℕ → ℕ → List (List (List ℕ)) → Type 0
 StandAt kind file at [] = Unit {0}
-StandAt kind file at (page ∷ pages) = IsPage (record { kind = kind; rows = page }) (part file at 8192) × StandAt kind file (at + 8192) pages
+StandAt kind file at (page ∷ pages) = IsPage (record { kind = kind; rows = page }) (part file at page_bytes) × StandAt kind file (at + page_bytes) pages
 
 abbrev pub has_none : List (List ℕ) → Bool
 has_none [] = true
@@ -23,7 +24,7 @@ has_none (row ∷ rows) = false
 pub record IsLaying (modelled : Bool) (file : List ℕ) (start : ℕ) (image : ImageWriter) (writer : RowWriter) (rows : List (List ℕ)) : Type 0 where
   pub full : List (List (List ℕ))
   pub stand : IsTrue modelled → StandAt writer.page.kind file start full
-  pub next : next_of image ≡ start + 8192 * length full
+  pub next : next_of image ≡ start + page_bytes * length full
   pub same : (rest : List (List ℕ)) → laid (rows ++ rest) ≡ full ++ laid_behind writer.page.rows rest
   pub empty : writer.is_empty ≡ has_none writer.page.rows
   pub short : AllByRecursion IsShort rows

@@ -3,6 +3,7 @@ use Rattle.std.specs.Prelude.{◌≡◌, ◌⊎◌, ◌≤◌, ◌<◌, ℕ, ◌
 use Rattle.drda_words.specs.Place.{part}
 use Rattle.drda_disk.specs.Disk.{Life}
 use Rattle.drda_disk.specs.Region.{end_of}
+use Rattle.drda_disk.specs.Layout.{page_bytes}
 use Rattle.unit_journal.specs.Journal.{IsSettled, held_of, region_of}
 use Rattle.unit_journal.specs.Record.{Entry, laid}
 use Rattle.unit_journal.specs.Stands.{StandsFrom}
@@ -18,11 +19,11 @@ use Rattle.checkpoint_writer.specs.declared.errors.ImageError.TheVariants.{Devic
 
 -- so many bytes and a gate fit behind the pages of an image
 abbrev pub FitBehind : ImageWriter → ℕ → Type 0
-FitBehind w n = 8192 * (1 + pages_of w) + (n + 1) ≤ half_bytes_of w
+FitBehind w n = page_bytes * (1 + pages_of w) + (n + 1) ≤ half_bytes_of w
 
 -- the bytes of the pages that were written into an image
 abbrev pub pages_in : List ℕ → ImageWriter → List ℕ
-pages_in file w = part file (from_of w + 8192) (8192 * pages_of w)
+pages_in file w = part file (from_of w + page_bytes) (page_bytes * pages_of w)
 
 -- an image has the new half: its pages as they were read, behind them just these records, and room for so many bytes
 pub record IsNew (file : List ℕ) (new : Store) (w : ImageWriter) (es : List Entry) (held : ℕ) (image : List ℕ) : Type 0 where
@@ -64,7 +65,7 @@ OnRefused (Err other) P = P
 
 -- So many bytes fit behind the pages but where the opposite is told; what is told to be lacking is no more than what lacks.
 abbrev pub SaysFull : {T : Type 0} → Result T ImageError → ImageWriter → ℕ → Type 0
-SaysFull (Err (Full full)) w n = (full.room < full.need) × (half_bytes_of w + full.need ≤ 8192 * (1 + pages_of w) + (n + 1) + full.room)
+SaysFull (Err (Full full)) w n = (full.room < full.need) × (half_bytes_of w + full.need ≤ page_bytes * (1 + pages_of w) + (n + 1) + full.room)
 SaysFull other w n = FitBehind w n
 
 -- what is told of room for so many bytes behind the pages; damage never is

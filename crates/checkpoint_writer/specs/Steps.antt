@@ -1,5 +1,6 @@
 -- A table that is merged, step by step.
 use Rattle.std.specs.Prelude.{◌≡◌, ℕ, ◌+◌, ◌*◌, ◌≤◌, Bool, true, false, IsTrue, List, [], ◌++◌}
+use Rattle.drda_disk.specs.Layout.{page_bytes}
 use Rattle.key_map.specs.Merging.{Rows}
 use Rattle.half_store.specs.declared.image.ImageWriter.{ImageWriter}
 use Rattle.table_map.specs.Cursor.{IsLeft}
@@ -20,7 +21,7 @@ pub record GoesOn (modelled : Bool) (key_of : List ℕ → List ℕ) (file file_
   pub left : (left : Rows) → IsTrue modelled → IsLeft key_of file old.cursor left → LeavesBehind key_of file left rows new.cursor
   pub laid : (start : ℕ) (before : List (List ℕ)) → HasLaid modelled key_of file start image old.writer before → HasLaid modelled key_of file_then start image_then new.writer (before ++ rows)
   pub noted : new.noted.listed.value ≡ old.noted.listed.value ++ rows
-  pub end : new.cursor.base.at + 8192 * new.cursor.base.pages ≡ old.cursor.base.at + 8192 * old.cursor.base.pages
+  pub end : new.cursor.base.at + page_bytes * new.cursor.base.pages ≡ old.cursor.base.at + page_bytes * old.cursor.base.pages
   pub forward : old.cursor.base.at ≤ new.cursor.base.at
 
 -- none was left, and nothing was laid or noted

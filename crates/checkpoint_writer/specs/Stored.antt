@@ -1,6 +1,7 @@
 -- A table that is written anew.
 use Rattle.std.specs.Prelude.{◌≡◌, ◌⊎◌, ℕ, ◌+◌, ◌*◌, ◌≤◌, List, length}
 use Rattle.std.specs.List.{AllByRecursion}
+use Rattle.drda_disk.specs.Layout.{page_bytes}
 use Rattle.row_pages.specs.Laying.{IsShort, laid, rows_over}
 use Rattle.key_map.specs.Merging.{Rows}
 use Rattle.table_map.specs.Keyed.{keyed_rows}
@@ -12,7 +13,7 @@ use Rattle.checkpoint_writer.specs.Adding.{end_of_half}
 
 -- the pages of a table lie outside of the half that is written
 abbrev pub LieApart : Places → ImageWriter → Type 0
-LieApart places w = (places.at + 8192 * length places.keys ≤ from_of w) ⊎ (end_of_half w ≤ places.at)
+LieApart places w = (places.at + page_bytes * length places.keys ≤ from_of w) ⊎ (end_of_half w ≤ places.at)
 
 -- each row stands under the key that it has
 abbrev pub HaveKeys : (List ℕ → List ℕ) → Rows → Type 0

@@ -3,6 +3,7 @@ ghost use Rattle.std.specs.Prelude.{◌≡◌, ◌+◌, ◌*◌, ◌≤◌, ◌�
 ghost use Rattle.row_pages.specs.Laying.{IsShort, laid, pages_with};
 ghost use Rattle.row_values.specs.Schema.{is_name};
 ghost use Rattle.std.specs.List.{AllByRecursion};
+ghost use Rattle.drda_disk.specs.Layout.{page_bytes};
 ghost use Rattle.half_store.specs.Writing.{from_of, half_bytes_of, next_of};
 ghost use Rattle.checkpoint_writer.specs.Adding.{AddsPages, end_of_half};
 ghost use Rattle.checkpoint_writer.specs.Catalogue.{Entry, HaveNames, entry_bytes, place_of, rows_of};
@@ -33,9 +34,9 @@ pub fn write_catalogue<D: Disk>(
     requires inside { from_of image.old + half_bytes_of image.old ≤ length (D.life disk.old).seen }
     ensures adds { AddsPages D.is_modelled (D.life disk.old) (D.life disk.new) image.old image.new }
     ensures stand { OnOk result (IsTrue D.is_modelled → StandAt PageKind.Catalogue (D.life disk.new).seen (next_of image.old) (laid (rows_of (map place_of tables.now)))) }
-    ensures pages { OnOk result (next_of image.new ≡ next_of image.old + 8192 * length (laid (rows_of (map place_of tables.now)))) }
+    ensures pages { OnOk result (next_of image.new ≡ next_of image.old + page_bytes * length (laid (rows_of (map place_of tables.now)))) }
     ensures short { OnOk result (AllByRecursion IsShort (rows_of (map place_of tables.now))) }
-    ensures full { TellsFull result (end_of_half image.old) (next_of image.old + 8192 * length (laid (rows_of (map place_of tables.now)))) }
+    ensures full { TellsFull result (end_of_half image.old) (next_of image.old + page_bytes * length (laid (rows_of (map place_of tables.now)))) }
     ensures damaged { DamagedWhere ⊥ result }
     ensures cause { CountsImage result (D.life disk.old).faults (D.life disk.new).faults }
 {

@@ -1,8 +1,7 @@
 //! Why no table was written.
 ghost use Rattle.std.specs.Prelude.{◌≡◌};
 
-use drda_disk::DiskFault;
-use half_store::{BeginError, Full, PageError, SwitchError};
+use drda_disk::{DiskError, DiskFault, Full, WriteError};
 use row_pages::PageFault;
 use std::alloc::AllocError;
 use thiserror::Error;
@@ -47,15 +46,15 @@ impl From<PageFault> for ImageError {
     }
 }
 
-impl From<PageError> for ImageError {
+impl From<WriteError> for ImageError {
     ghost use Rattle.checkpoint_writer.specs.Errors.{unwritten};
 
     ghost from_gives = { λ fault e. e ≡ unwritten fault };
 
-    fn from(fault: PageError) -> Self {
+    fn from(fault: WriteError) -> Self {
         match fault {
-            PageError::Full(full) => ImageError::Full(full),
-            PageError::DeviceFailed => ImageError::DeviceFailed,
+            WriteError::Full(full) => ImageError::Full(full),
+            WriteError::DeviceFailed => ImageError::DeviceFailed,
         }
     }
 }
@@ -70,15 +69,15 @@ impl From<DiskFault> for ImageError {
     }
 }
 
-impl From<BeginError> for ImageError {
-    ghost use Rattle.checkpoint_writer.specs.Errors.{not_begun};
+impl From<DiskError> for ImageError {
+    ghost use Rattle.checkpoint_writer.specs.Errors.{undone};
 
-    ghost from_gives = { λ fault e. e ≡ not_begun fault };
+    ghost from_gives = { λ fault e. e ≡ undone fault };
 
-    fn from(fault: BeginError) -> Self {
+    fn from(fault: DiskError) -> Self {
         match fault {
-            BeginError::NoMemory => ImageError::NoMemory,
-            BeginError::DeviceFailed => ImageError::DeviceFailed,
+            DiskError::NoMemory => ImageError::NoMemory,
+            DiskError::DeviceFailed => ImageError::DeviceFailed,
         }
     }
 }
@@ -92,23 +91,7 @@ impl From<LayError> for ImageError {
         match fault {
             LayError::NoMemory => ImageError::NoMemory,
             LayError::DeviceFailed => ImageError::DeviceFailed,
-            LayError::Full(full) => ImageError::Full(Full {
-                need: full.need,
-                room: full.room,
-            }),
-        }
-    }
-}
-
-impl From<SwitchError> for ImageError {
-    ghost use Rattle.checkpoint_writer.specs.Errors.{not_switched};
-
-    ghost from_gives = { λ fault e. e ≡ not_switched fault };
-
-    fn from(fault: SwitchError) -> Self {
-        match fault {
-            SwitchError::NoMemory => ImageError::NoMemory,
-            SwitchError::DeviceFailed => ImageError::DeviceFailed,
+            LayError::Full(full) => ImageError::Full(full),
         }
     }
 }

@@ -1,6 +1,7 @@
 //! Writing the rows of a table that lie in memory.
 ghost use Rattle.std.specs.Prelude.{◌≡◌, ◌+◌, ◌*◌, ◌≤◌, ◌++◌, ◌∷◌, ℕ, List, IsTrue, OnOk, IfOk, length};
 ghost use Rattle.std.specs.List.{AllByRecursion};
+ghost use Rattle.drda_disk.specs.Layout.{page_bytes};
 ghost use Rattle.row_pages.specs.Laying.{IsShort, laid};
 ghost use Rattle.key_map.specs.Merging.{InOrder};
 ghost use Rattle.key_map.specs.Walk.{rows_left};
@@ -35,11 +36,11 @@ pub fn write_rows<D: Disk>(
     requires inside { from_of image.old + half_bytes_of image.old ≤ length (D.life disk.old).seen }
     ensures adds { AddsPages D.is_modelled (D.life disk.old) (D.life disk.new) image.old image.new }
     ensures at { IfOk result (λ written. written.at ≡ next_of image.old) }
-    ensures pages { IfOk result (λ written. next_of image.new ≡ written.at + 8192 * length written.keys) }
+    ensures pages { IfOk result (λ written. next_of image.new ≡ written.at + page_bytes * length written.keys) }
     ensures count { IfOk result (λ written. length written.keys ≡ length (laid (without_keys (rows_left rows.entry)))) }
     ensures rows { (key_of : List ℕ → List ℕ) → IsTrue D.is_modelled → InOrder (rows_left rows.entry) → HaveKeys key_of (rows_left rows.entry)
         → IfOk result (λ written. IsImageOf key_of (rows_left rows.entry) written (D.life disk.new).seen) }
-    ensures full { TellsFull result (end_of_half image.old) (next_of image.old + 8192 * length (laid (without_keys (rows_left rows.entry)))) }
+    ensures full { TellsFull result (end_of_half image.old) (next_of image.old + page_bytes * length (laid (without_keys (rows_left rows.entry)))) }
     ensures damaged { DamagedWhere (AllByRecursion IsShort (without_keys (rows_left rows.entry)) → ⊥) result }
     ensures cause { CountsImage result (D.life disk.old).faults (D.life disk.new).faults }
 {

@@ -2,6 +2,7 @@
 ghost use Rattle.std.specs.Prelude.{◌≡◌, ◌+◌, ◌*◌, ◌≤◌, ◌++◌, ◌∷◌, [], ℕ, List, true, IsTrue, OnOk, IfOk, length};
 ghost use Rattle.row_pages.specs.Laying.{IsShort, laid};
 ghost use Rattle.std.specs.List.{AllByRecursion};
+ghost use Rattle.drda_disk.specs.Layout.{page_bytes};
 ghost use Rattle.half_store.specs.Writing.{from_of, half_bytes_of, next_of};
 ghost use Rattle.table_map.specs.Stored.{IsStored};
 ghost use Rattle.table_map.specs.Table.{rows_of_table, without_keys};
@@ -71,7 +72,7 @@ impl TableWriter {
         ensures laid { (start : ℕ) (rows : List (List ℕ)) → HasLaid D.is_modelled (K.key_of keys.now) (D.life disk.old).seen start image.old self.old rows
             → OnOk result (HasLaid D.is_modelled (K.key_of keys.now) (D.life disk.new).seen start image.new self.new (rows ++ row.now ∷ [])) }
         ensures full { (start : ℕ) (rows rest : List (List ℕ)) → HasLaid D.is_modelled (K.key_of keys.now) (D.life disk.old).seen start image.old self.old rows
-            → TellsFull result (end_of_half image.old) (start + 8192 * length (laid (rows ++ row.now ∷ rest))) }
+            → TellsFull result (end_of_half image.old) (start + page_bytes * length (laid (rows ++ row.now ∷ rest))) }
         ensures damaged { DamagedWhere (IsShort row.now → ⊥) result }
         ensures cause { CountsImage result (D.life disk.old).faults (D.life disk.new).faults }
     {
@@ -107,7 +108,7 @@ impl TableWriter {
         ensures laid { (start : ℕ) (rows : List (List ℕ)) → HasLaid D.is_modelled (K.key_of keys.now) (D.life disk.old).seen start image.old self.old rows
             → OnOk result (HasLaid D.is_modelled (K.key_of keys.now) (D.life disk.new).seen start image.new self.new (rows ++ page.rows)) }
         ensures full { (start : ℕ) (rows rest : List (List ℕ)) → HasLaid D.is_modelled (K.key_of keys.now) (D.life disk.old).seen start image.old self.old rows
-            → TellsFull result (end_of_half image.old) (start + 8192 * length (laid (rows ++ (page.rows ++ rest)))) }
+            → TellsFull result (end_of_half image.old) (start + page_bytes * length (laid (rows ++ (page.rows ++ rest)))) }
         ensures damaged { DamagedWhere ⊥ result }
         ensures cause { CountsImage result (D.life disk.old).faults (D.life disk.new).faults }
     {
@@ -131,7 +132,7 @@ impl TableWriter {
         ensures laid { (start : ℕ) (rows : Rows) → HasLaidAt D.is_modelled (D.life disk.old).seen start image.old self.old rows
             → OnOk result (HasLaidAt D.is_modelled (D.life disk.new).seen start image.new self.new (rows ++ (key.now, row.now) ∷ [])) }
         ensures full { (start : ℕ) (rows : Rows) (rest : List (List ℕ)) → HasLaidAt D.is_modelled (D.life disk.old).seen start image.old self.old rows
-            → TellsFull result (end_of_half image.old) (start + 8192 * length (laid (without_keys rows ++ row.now ∷ rest))) }
+            → TellsFull result (end_of_half image.old) (start + page_bytes * length (laid (without_keys rows ++ row.now ∷ rest))) }
         ensures damaged { DamagedWhere (IsShort row.now → ⊥) result }
         ensures cause { CountsImage result (D.life disk.old).faults (D.life disk.new).faults }
     {
@@ -159,7 +160,7 @@ pub fn merge_into<K: RowKeys, D: Disk>(
     disk: &mut D,
     image: &mut ImageWriter,
 ) -> Result<NotedPages, ImageError>
-    requires table { table.now.places.at + 8192 * length table.now.places.keys ≤ length (D.life disk.old).seen }
+    requires table { table.now.places.at + page_bytes * length table.now.places.keys ≤ length (D.life disk.old).seen }
     requires inside { from_of image.old + half_bytes_of image.old ≤ length (D.life disk.old).seen }
     ensures adds { AddsPages D.is_modelled (D.life disk.old) (D.life disk.new) image.old image.new }
     ensures last { IfOk result (λ written. AreLast image.old image.new written.pages) }
@@ -171,7 +172,7 @@ pub fn merge_into<K: RowKeys, D: Disk>(
         → IfOk result (λ written. written.rows.listed.value ≡ without_keys (rows_of_table (K.key_of keys.now) table.now pages)) }
     ensures full { (pages : List (List (List ℕ))) → IsTrue D.is_modelled → IsStored (K.key_of keys.now) table.now.places pages (D.life disk.old).seen
         → LieApart table.now.places image.old
-        → TellsFull result (end_of_half image.old) (next_of image.old + 8192 * length (laid (without_keys (rows_of_table (K.key_of keys.now) table.now pages)))) }
+        → TellsFull result (end_of_half image.old) (next_of image.old + page_bytes * length (laid (without_keys (rows_of_table (K.key_of keys.now) table.now pages)))) }
     ensures damaged { (pages : List (List (List ℕ))) → IsTrue D.is_modelled → IsStored (K.key_of keys.now) table.now.places pages (D.life disk.old).seen
         → LieApart table.now.places image.old
         → DamagedWhere (AllByRecursion IsShort (without_keys (rows_of_table (K.key_of keys.now) table.now pages)) → ⊥) result }

@@ -2,6 +2,7 @@
 ghost use Rattle.std.specs.Prelude.{◌≡◌, ◌+◌, ◌*◌, ◌^◌, ◌≤◌, ◌++◌, ◌∷◌, [], ℕ, List, Some, IsTrue, OnOk, IfOk, length, map, option_map};
 ghost use Rattle.drda_words.specs.Place.{part};
 ghost use Rattle.drda_disk.specs.Disk.{Stays};
+ghost use Rattle.drda_disk.specs.Layout.{page_bytes};
 ghost use Rattle.row_values.specs.Bytes.{Reads};
 ghost use Rattle.row_pages.specs.Page.{IsPage};
 ghost use Rattle.checkpoint_writer.specs.Catalogue.{CatalogueIsRead, entries_in, entry_of};
@@ -9,8 +10,8 @@ ghost use Rattle.checkpoint_writer.specs.ReadCatalogue.{CountsCatalogue, ReadsBy
 
 use crate::StoredTable;
 use crate::entry::read_entry;
-use drda_disk::Disk;
-use row_pages::{KeptPage, PAGE_BYTES, PageFault, PageKind, Pager, one_laying, one_page};
+use drda_disk::{Disk, PAGE_BYTES};
+use row_pages::{KeptPage, PageFault, PageKind, Pager, one_laying, one_page};
 use row_values::ReadError;
 use std::alloc::Global;
 use thiserror::Error;
@@ -83,8 +84,8 @@ fn read_page<D: Disk>(
     at: usize,
     tables: &mut Vec<StoredTable>,
 ) -> Result<(), CatalogueError>
-    requires { at + 8192 ≤ length (D.life pager.old).seen }
-    ensures told { IsTrue D.is_modelled → ReadsBytes (part (D.life pager.old).seen at 8192) at tables.old.items result tables.new.items }
+    requires { at + page_bytes ≤ length (D.life pager.old).seen }
+    ensures told { IsTrue D.is_modelled → ReadsBytes (part (D.life pager.old).seen at page_bytes) at tables.old.items result tables.new.items }
     ensures stays { Stays (D.life pager.old) (D.life pager.new) }
     ensures cause { CountsCatalogue result (D.life pager.old).faults (D.life pager.new).faults }
 {
@@ -103,8 +104,8 @@ pub fn read_catalogue<D: Disk>(
     at: usize,
     pages: usize,
 ) -> Result<Vec<StoredTable>, CatalogueError>
-    requires small { at + 8192 * pages ≤ 2 ^ 40 }
-    requires inside { at + 8192 * pages ≤ length (D.life pager.old).seen }
+    requires small { at + page_bytes * pages ≤ 2 ^ 40 }
+    requires inside { at + page_bytes * pages ≤ length (D.life pager.old).seen }
     ensures told { IsTrue D.is_modelled → TellsCatalogue (D.life pager.old).seen at pages result }
     ensures stays { Stays (D.life pager.old) (D.life pager.new) }
     ensures cause { CountsCatalogue result (D.life pager.old).faults (D.life pager.new).faults }

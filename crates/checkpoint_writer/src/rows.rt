@@ -1,5 +1,6 @@
 //! Rows that are laid into pages one behind another.
 ghost use Rattle.std.specs.Prelude.{◌≡◌, ◌+◌, ◌*◌, ◌≤◌, ◌++◌, ◌∷◌, [], ℕ, List, true, IsTrue, OnOk, IfOk, length};
+ghost use Rattle.drda_disk.specs.Layout.{page_bytes};
 ghost use Rattle.row_pages.specs.Laying.{IsShort, laid};
 ghost use Rattle.half_store.specs.Writing.{from_of, half_bytes_of, next_of};
 ghost use Rattle.table_map.specs.Keyed.{first_key, first_keys};
@@ -53,7 +54,7 @@ impl RowWriter {
         ensures first { (start : ℕ) (rows : List (List ℕ)) (key_of : List ℕ → List ℕ) → IsLaying D.is_modelled (D.life disk.old).seen start image.old self.old rows
             → IfOk result (λ first. first_keys key_of (laid (rows ++ row.now ∷ [])) ≡ first_keys key_of (laid rows) ++ key_if first (key_of row.now)) }
         ensures full { (start : ℕ) (rows rest : List (List ℕ)) → IsLaying D.is_modelled (D.life disk.old).seen start image.old self.old rows
-            → TellsFull result (end_of_half image.old) (start + 8192 * length (laid (rows ++ row.now ∷ rest))) }
+            → TellsFull result (end_of_half image.old) (start + page_bytes * length (laid (rows ++ row.now ∷ rest))) }
         ensures damaged { DamagedWhere ⊥ result }
         ensures cause { CountsImage result (D.life disk.old).faults (D.life disk.new).faults }
     {
@@ -97,7 +98,7 @@ impl RowWriter {
         ensures first { (start : ℕ) (rows : List (List ℕ)) (key_of : List ℕ → List ℕ) → IsLaying D.is_modelled (D.life disk.old).seen start image.old self.old rows
             → OnOk result (first_keys key_of (laid (rows ++ page.rows)) ≡ first_keys key_of (laid rows) ++ first_key key_of page.rows ∷ []) }
         ensures full { (start : ℕ) (rows rest : List (List ℕ)) → IsLaying D.is_modelled (D.life disk.old).seen start image.old self.old rows
-            → TellsFull result (end_of_half image.old) (start + 8192 * length (laid (rows ++ (page.rows ++ rest)))) }
+            → TellsFull result (end_of_half image.old) (start + page_bytes * length (laid (rows ++ (page.rows ++ rest)))) }
         ensures damaged { DamagedWhere ⊥ result }
         ensures cause { CountsImage result (D.life disk.old).faults (D.life disk.new).faults }
     {
@@ -122,9 +123,9 @@ impl RowWriter {
         ensures stand { (start : ℕ) (rows : List (List ℕ)) → IsLaying D.is_modelled (D.life disk.old).seen start image.old self rows
             → OnOk result (IsTrue D.is_modelled → StandAt self.page.kind (D.life disk.new).seen start (laid rows)) }
         ensures pages { (start : ℕ) (rows : List (List ℕ)) → IsLaying D.is_modelled (D.life disk.old).seen start image.old self rows
-            → OnOk result (next_of image.new ≡ start + 8192 * length (laid rows)) }
+            → OnOk result (next_of image.new ≡ start + page_bytes * length (laid rows)) }
         ensures full { (start : ℕ) (rows : List (List ℕ)) → IsLaying D.is_modelled (D.life disk.old).seen start image.old self rows
-            → TellsFull result (end_of_half image.old) (start + 8192 * length (laid rows)) }
+            → TellsFull result (end_of_half image.old) (start + page_bytes * length (laid rows)) }
         ensures damaged { DamagedWhere ⊥ result }
         ensures cause { CountsImage result (D.life disk.old).faults (D.life disk.new).faults }
     {

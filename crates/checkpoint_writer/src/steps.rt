@@ -1,6 +1,7 @@
 //! Merging a table step by step.
 ghost use Rattle.std.specs.Prelude.{◌≡◌, ◌⊎◌, ◌+◌, ◌*◌, ◌<◌, ◌≤◌, ◌++◌, ℕ, List, IsTrue, IfOk, length};
 ghost use Rattle.std.specs.List.{AllByRecursion};
+ghost use Rattle.drda_disk.specs.Layout.{page_bytes};
 ghost use Rattle.row_pages.specs.Laying.{IsShort, laid};
 ghost use Rattle.key_map.specs.Merging.{Rows};
 ghost use Rattle.half_store.specs.Writing.{from_of, half_bytes_of};
@@ -38,14 +39,14 @@ impl<'a> Merging<'a> {
         disk: &mut D,
         image: &mut ImageWriter,
     ) -> Result<bool, ImageError>
-        requires there { self.old.cursor.base.at + 8192 * self.old.cursor.base.pages ≤ length (D.life disk.old).seen }
+        requires there { self.old.cursor.base.at + page_bytes * self.old.cursor.base.pages ≤ length (D.life disk.old).seen }
         requires inside { from_of image.old + half_bytes_of image.old ≤ length (D.life disk.old).seen }
         ensures adds { AddsPages D.is_modelled (D.life disk.old) (D.life disk.new) image.old image.new }
         ensures steps { IfOk result (λ some. Steps D.is_modelled (D.life disk.old).seen (D.life disk.new).seen (K.key_of keys.now) some image.old image.new self.old self.new) }
         ensures fewer { IfOk result (λ some. IsTrue some → weight self.new.cursor < weight self.old.cursor) }
         ensures full { (left : Rows) (start : ℕ) (rows : List (List ℕ)) → IsTrue D.is_modelled → IsLeft (K.key_of keys.now) (D.life disk.old).seen self.old.cursor left
             → HasLaid D.is_modelled (K.key_of keys.now) (D.life disk.old).seen start image.old self.old.writer rows
-            → TellsFull result (end_of_half image.old) (start + 8192 * length (laid (rows ++ without_keys left))) }
+            → TellsFull result (end_of_half image.old) (start + page_bytes * length (laid (rows ++ without_keys left))) }
         ensures damaged { (left : Rows) → IsTrue D.is_modelled → IsLeft (K.key_of keys.now) (D.life disk.old).seen self.old.cursor left
             → DamagedWhere (SomePage HasNoRows (D.life disk.old).seen self.old.cursor.base.at self.old.cursor.base.pages ⊎ (AllByRecursion IsShort (without_keys left) → ⊥)) result }
         ensures cause { CountsImage result (D.life disk.old).faults (D.life disk.new).faults }

@@ -7,7 +7,7 @@ use crate::keys::FirstByte;
 use crate::pages::{rows_of, table_with, tell_rows};
 use crate::stores::{Run, STORE_BYTES, new_store, number};
 use checkpoint_writer::{ImageError, merge_into, write_rows};
-use drda_disk::{Disk, ReadFault, read_bytes};
+use drda_disk::{Disk, DiskError, read_bytes};
 use half_store::{Active, ImageWriter, begin_image};
 use row_pages::{PageCache, Pager};
 use std::alloc::{AllocError, Global};
@@ -122,7 +122,7 @@ fn bytes_of<D: Disk>(alloc: Global, disk: &mut D, run: Run) -> Result<Option<Vec
     }
     match read_bytes(alloc, disk, run.at, 8_192 * run.pages) {
         Ok(bytes) => Ok(Some(bytes)),
-        Err(ReadFault::NoMemory) => Err(AllocError),
+        Err(DiskError::NoMemory) => Err(AllocError),
         Err(_) => Ok(None),
     }
 }

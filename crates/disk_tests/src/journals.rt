@@ -3,12 +3,10 @@ ghost use Rattle.std.specs.Prelude.{IsTrue, length};
 ghost use Rattle.unit_journal.specs.Adding.{IsPlace};
 
 use crate::calls::{number_in, tell, tell_both};
-use drda_disk::{Disk, Region};
+use drda_disk::{Disk, Region, WriteError};
 use std::alloc::{AllocError, Global};
 use test_bytes::bytes_of;
-use unit_journal::{
-    AppendError, Journal, Kind, LaidGroup, LaidRecord, LayError, OpenError, Record,
-};
+use unit_journal::{Journal, Kind, LaidGroup, LaidRecord, LayError, OpenError, Record};
 
 fn may_be_a_journal<D: Disk>(disk: &D, region: Region) -> bool
     ensures { IsTrue result → IsPlace (length (D.life disk.now).seen) region }
@@ -110,13 +108,13 @@ fn append<D: Disk>(
     laid: &LaidRecord,
     hold: usize,
     release: usize,
-) -> Result<(), AppendError> {
+) -> Result<(), WriteError> {
     if journal.region().end() > disk.size()
         || laid.body().len() >= 1 << 32
         || hold >= 1 << 32
         || release > journal.held()
     {
-        return Err(AppendError::DeviceFailed);
+        return Err(WriteError::DeviceFailed);
     }
     journal.append(disk, laid, hold, release)
 }
@@ -127,13 +125,13 @@ fn append_group<D: Disk>(
     group: &LaidGroup,
     hold: usize,
     release: usize,
-) -> Result<(), AppendError> {
+) -> Result<(), WriteError> {
     if journal.region().end() > disk.size()
         || group.len() >= 1 << 32
         || hold >= 1 << 32
         || release > journal.held()
     {
-        return Err(AppendError::DeviceFailed);
+        return Err(WriteError::DeviceFailed);
     }
     journal.append_group(disk, group, hold, release)
 }
@@ -146,13 +144,13 @@ pub fn add<D: Disk>(
     disk: &mut D,
     verb: &str,
     asked: &str,
-) -> Result<Result<(), AppendError>, AllocError> {
+) -> Result<Result<(), WriteError>, AllocError> {
     let (hold, asked) = number_in(asked);
     let (release, asked) = number_in(asked);
     match verb {
         "hold" => Ok(match journal.hold(hold) {
             Ok(()) => Ok(()),
-            Err(full) => Err(AppendError::Full(full)),
+            Err(full) => Err(WriteError::Full(full)),
         }),
         "group" => {
             let group = group_of(alloc, number_in(asked).0)?;

@@ -5,11 +5,11 @@ use crate::calls::{
 };
 use crate::journals::{add, count, open, settle, tell_begun, tell_record};
 use crate::staged::{go_on, lay_ahead, put};
-use drda_disk::{Disk, FuseDisk, MemDisk, Region};
+use drda_disk::{Disk, FuseDisk, MemDisk, Region, WriteError};
 use std::alloc::{AllocError, Global};
 use std::mem;
 use test_bytes::bytes_of;
-use unit_journal::{AppendError, Journal, Record, Staged};
+use unit_journal::{Journal, Record, Staged};
 
 /// A disk in memory behind a fuse, the region of a journal on it, the journal, if one is open, by itself or with a group laid ahead, and the
 /// records that were found last.
@@ -197,7 +197,7 @@ impl Memory {
             return tell_text(out, "no journal");
         };
         let told = add(self.alloc, journal, &mut self.disk, verb, asked)?;
-        if told == Err(AppendError::DeviceFailed) {
+        if told == Err(WriteError::DeviceFailed) {
             self.journal = None;
         }
         tell(out, &told)
@@ -230,7 +230,7 @@ impl Memory {
             return tell_text(out, "no journal");
         };
         let told = put(self.alloc, staged, &mut self.disk, verb, numbers_in(asked))?;
-        if told == Err(AppendError::DeviceFailed) {
+        if told == Err(WriteError::DeviceFailed) {
             self.staged = None;
         }
         tell(out, &told)

@@ -4,9 +4,9 @@ ghost use Rattle.unit_journal.specs.Adding.{MayAdd};
 ghost use Rattle.unit_journal.specs.Staged.{journal_of};
 
 use crate::journals::{group_of, laid_record};
-use drda_disk::{Disk, DiskFault};
+use drda_disk::{Disk, DiskFault, WriteError};
 use std::alloc::{AllocError, Global};
-use unit_journal::{AppendError, LaidGroup, LaidRecord, Staged};
+use unit_journal::{LaidGroup, LaidRecord, Staged};
 
 // Whether records of so many bytes may be added.
 fn may_add<D: Disk>(staged: &Staged, disk: &D, bytes: usize, hold: usize, release: usize) -> bool
@@ -37,9 +37,9 @@ fn append_group<D: Disk>(
     group: &LaidGroup,
     hold: usize,
     release: usize,
-) -> Result<(), AppendError> {
+) -> Result<(), WriteError> {
     if !may_add(staged, disk, group.len(), hold, release) {
-        return Err(AppendError::DeviceFailed);
+        return Err(WriteError::DeviceFailed);
     }
     staged.append_group(disk, group, hold, release)
 }
@@ -50,11 +50,11 @@ fn append<D: Disk>(
     laid: &LaidRecord,
     hold: usize,
     release: usize,
-) -> Result<(), AppendError> {
+) -> Result<(), WriteError> {
     if laid.body().len() >= 1 << 32
         || !may_add(staged, disk, 6 + laid.body().len(), hold, release)
     {
-        return Err(AppendError::DeviceFailed);
+        return Err(WriteError::DeviceFailed);
     }
     staged.append(disk, laid, hold, release)
 }
@@ -78,7 +78,7 @@ pub fn put<D: Disk>(
     disk: &mut D,
     verb: &str,
     asked: [usize; 4],
-) -> Result<Result<(), AppendError>, AllocError> {
+) -> Result<Result<(), WriteError>, AllocError> {
     let [count, hold, release, _] = asked;
     match verb {
         "whole" => {

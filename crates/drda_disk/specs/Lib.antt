@@ -10,4 +10,5 @@ pub mod FuseDisk
 pub mod File
 pub mod PositionalFile
 pub mod FileDisk
-pub mod Through
+pub mod Errors
+pub mod Layout

@@ -2,11 +2,10 @@
 ghost use Rattle.std.specs.Prelude.{◌≡◌, ◌+◌, ◌≤◌, ℕ, List, IsTrue, length, OnOk, IfOk};
 ghost use Rattle.drda_words.specs.Place.{part};
 ghost use Rattle.drda_disk.specs.Disk.{Only, overlaid, Torn, Stays, LeavesOnly, Within, CountsFault};
-ghost use Rattle.drda_disk.specs.Through.{CountsReadFault};
+ghost use Rattle.drda_disk.specs.Errors.{CountsError};
 
-use crate::{Disk, DiskFault};
-use std::alloc::{AllocError, Global};
-use thiserror::Error;
+use crate::{Disk, DiskError, DiskFault};
+use std::alloc::Global;
 
 /// Writes the bytes from `at` on and syncs: once this succeeds they outlast a crash. The range lies
 /// inside the disk. On a fault the range may hold any bytes.
@@ -27,47 +26,18 @@ pub fn write_through<D: Disk>(disk: &mut D, at: usize, bytes: &[u8]) -> Result<(
     disk.sync()
 }
 
-/// Why no bytes were read.
-#[derive(Clone, Copy, Debug, PartialEq, Eq, Error)]
-pub enum ReadFault {
-    #[error("no memory")]
-    NoMemory,
-    #[error("the device failed")]
-    DeviceFailed,
-}
-
-impl From<AllocError> for ReadFault {
-    ghost use Rattle.drda_disk.specs.declared.through.ReadFault.TheVariants.{NoMemory};
-
-    ghost from_gives = { λ _ e. e ≡ NoMemory };
-
-    fn from(_: AllocError) -> Self {
-        ReadFault::NoMemory
-    }
-}
-
-impl From<DiskFault> for ReadFault {
-    ghost use Rattle.drda_disk.specs.declared.through.ReadFault.TheVariants.{DeviceFailed};
-
-    ghost from_gives = { λ _ e. e ≡ DeviceFailed };
-
-    fn from(_: DiskFault) -> Self {
-        ReadFault::DeviceFailed
-    }
-}
-
 /// The `len` bytes from `at` on, in new memory. The range lies inside the disk.
 pub fn read_bytes<D: Disk>(
     alloc: Global,
     disk: &mut D,
     at: usize,
     len: usize,
-) -> Result<Vec<u8>, ReadFault>
+) -> Result<Vec<u8>, DiskError>
     requires { at + len ≤ length (D.life disk.old).seen }
     ensures read { IfOk result (λ bytes. IsTrue D.is_modelled → bytes.items ≡ part (D.life disk.old).seen at len) }
     ensures len { IfOk result (λ bytes. length bytes.items ≡ len) }
     ensures stays { Stays (D.life disk.old) (D.life disk.new) }
-    ensures faults { CountsReadFault result (D.life disk.old).faults (D.life disk.new).faults }
+    ensures faults { CountsError result (D.life disk.old).faults (D.life disk.new).faults }
 {
     let mut bytes = vec![in alloc; 0; len]?;
     disk.read_at(at, &mut bytes)?;

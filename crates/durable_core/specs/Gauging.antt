@@ -1,6 +1,7 @@
 -- How full a store is, and when a checkpoint is due.
 use Rattle.std.specs.Prelude.{◌≡◌, ℕ, ◌+◌, ◌-◌, ◌*◌, ◌/◌, ◌||◌, nat_lt, Bool, List, length}
 use Rattle.drda_disk.specs.declared.region.Region.{Region}
+use Rattle.drda_disk.specs.Layout.{page_bytes}
 use Rattle.half_store.specs.Layout.{half_len}
 use Rattle.unit_journal.specs.Record.{Entry, laid}
 use Rattle.recovery.specs.Laws.{held_for}
@@ -16,7 +17,7 @@ pub record IsGauge (s : Shown) (g : Gauge) : Type 0 where
   pub entries : List Entry
   pub stands : Holds s.name s.layout region entries (durable_part s.state) s.disk.seen
   pub half : g.half ≡ half_len (length s.disk.seen)
-  pub tables : g.tables ≡ 8192 * (1 + stands.store.header.pages)
+  pub tables : g.tables ≡ page_bytes * (1 + stands.store.header.pages)
   pub journal : g.journal ≡ region.length
   pub all : g.tables + g.journal ≡ g.half
   pub records : g.records ≡ length (laid entries)

@@ -2,6 +2,7 @@
 use Rattle.std.specs.Prelude.{◌≡◌, ℕ, ◌+◌, ◌-◌, ◌*◌, ◌^◌, ◌<◌, ◌≤◌, List, length, Result, Ok, Err}
 use Rattle.drda_disk.specs.Region.{end_of}
 use Rattle.drda_disk.specs.declared.region.Region.{Region}
+use Rattle.drda_disk.specs.Layout.{page_bytes}
 use Rattle.half_store.specs.Active.{active_of, not_a_store}
 use Rattle.half_store.specs.Layout.{half_len}
 use Rattle.half_store.specs.Opened.{store_of}
@@ -62,7 +63,7 @@ pub record IsHead (image : List ℕ) (a : Active) : Type 0 where
 
 -- the pages of a half lie in the disk, between the beginning of the half and its journal
 pub record ArePagesInside (size : ℕ) (a : Active) : Type 0 where
-  pub behind : 8192 * a.pages ≤ a.region.at
+  pub behind : page_bytes * a.pages ≤ a.region.at
   pub small : a.region.at ≤ 2 ^ 40
   pub inside : a.region.at ≤ size
-  pub apart : end_of a.region - half_len size + 8192 * a.pages ≤ a.region.at
+  pub apart : end_of a.region - half_len size + page_bytes * a.pages ≤ a.region.at

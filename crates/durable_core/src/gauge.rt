@@ -8,11 +8,8 @@ ghost use Rattle.recovery.specs.Journaled.{shown_on};
 ghost use Rattle.durable_core.specs.Gauging.{IsDue, IsGauge, is_due};
 
 use crate::durable::DurableCore;
-use drda_disk::Disk;
+use drda_disk::{Disk, PAGE_BYTES};
 use journal_recorder::DiskRecorder;
-
-/// The bytes of a page.
-const PAGE_BYTES: usize = 8_192;
 
 /// A checkpoint is due where less than one part in so many of the journal is left for records,
 const PARTS_LEFT: usize = 4;

@@ -3,6 +3,7 @@ use Rattle.std.specs.Prelude.{◌≡◌, ◌⊎◌, ◌<◌, ◌≤◌, ℕ, ◌
 use Rattle.std.specs.Io.KnownBytes.{Appends}
 use Rattle.drda_words.specs.Place.{part}
 use Rattle.drda_disk.specs.Disk.{LeavesOnly, Life, Only, Stays}
+use Rattle.drda_disk.specs.Layout.{page_bytes}
 use Rattle.half_store.specs.Active.{Store, active_of, not_a_store}
 use Rattle.half_store.specs.Layout.{half_len, offset_of}
 use Rattle.half_store.specs.declared.layout.Half.TheVariants.{First}
@@ -20,9 +21,9 @@ pub record IsGrown (old new : List ℕ) : Type 0 where
   pub was : active_of old ≡ Ok store
   pub is : active_of new ≡ Ok (record store { half = First })
   pub wider : half_len (length old) ≤ half_len (length new)
-  pub inside : 8192 + half_len (length new) ≤ length new
+  pub inside : page_bytes + half_len (length new) ≤ length new
   pub small : length new < 2 ^ 64
-  pub same : part new 8192 (half_len (length old)) ≡ part old (offset_of (half_len (length old)) store.half) (half_len (length old))
+  pub same : part new page_bytes (half_len (length old)) ≡ part old (offset_of (half_len (length old)) store.half) (half_len (length old))
 
 -- what an image opens to, the other one opens to
 abbrev pub OpensAlike : List ℕ → List ℕ → Type 0
@@ -39,14 +40,14 @@ IsNoneOrAlike old image = (active_of image ≡ Err not_a_store) ⊎ OpensAlike o
 
 -- so many bytes fit in front of the second half, which begins in a disk of this size, and the head in front of them
 pub record HasRoom (count second_at head size : ℕ) : Type 0 where
-  pub count_fits : 8192 + count ≤ second_at
+  pub count_fits : page_bytes + count ≤ second_at
   pub second_inside : second_at < size
-  pub head_fits : 8 + head ≤ 8192
+  pub head_fits : 8 + head ≤ page_bytes
 
 -- So many bytes of the old image stand in the first half, the head behind the place of the mark, and the second half's gate is
 -- closed; each where the disks that it is of give back what was written.
 pub record IsMoved (one other : Bool) (old : List ℕ) (from count : ℕ) (head : List ℕ) (second_at : ℕ) (new : List ℕ) : Type 0 where
-  pub copied : IsTrue one → IsTrue other → part new 8192 count ≡ part old from count
+  pub copied : IsTrue one → IsTrue other → part new page_bytes count ≡ part old from count
   pub head_there : IsTrue other → part new 8 (length head) ≡ head
   pub gate_shut : IsTrue other → slice_index new second_at ≡ 0
 

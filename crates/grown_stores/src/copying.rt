@@ -3,11 +3,12 @@
 ghost use Rattle.std.specs.Prelude.{◌≡◌, ◌+◌, ◌^◌, ◌<◌, ◌≤◌, IfErr, IsTrue, OnOk, false, length};
 ghost use Rattle.drda_words.specs.Place.{part};
 ghost use Rattle.drda_disk.specs.Disk.{LeavesOnly, Stays, Torn};
+ghost use Rattle.drda_disk.specs.Layout.{page_bytes};
 ghost use Rattle.half_store.specs.Active.{is_marked};
 ghost use Rattle.half_store.specs.Fresh.{IsUnmarked};
 ghost use Rattle.store_files.specs.Stores.{IsOfDevice};
 
-use drda_disk::{Disk, ReadFault, read_bytes};
+use drda_disk::{Disk, DiskError, read_bytes};
 use half_store::FIRST_AT;
 use std::alloc::Global;
 use store_files::Fault;
@@ -25,9 +26,9 @@ pub(crate) fn copy<D: Disk, E: Disk>(
     new: &mut E,
 ) -> Result<(), Fault>
     requires there { from + count ≤ length (D.life old.old).seen }
-    requires room { 8192 + count ≤ length (E.life new.old).seen }
-    requires small { (from + count < 2 ^ 64) × (8192 + count < 2 ^ 64) }
-    ensures copied { OnOk result (IsTrue D.is_modelled → IsTrue E.is_modelled → part (E.life new.new).seen 8192 count ≡ part (D.life old.old).seen from count) }
+    requires room { page_bytes + count ≤ length (E.life new.old).seen }
+    requires small { (from + count < 2 ^ 64) × (page_bytes + count < 2 ^ 64) }
+    ensures copied { OnOk result (IsTrue D.is_modelled → IsTrue E.is_modelled → part (E.life new.new).seen page_bytes count ≡ part (D.life old.old).seen from count) }
     ensures stays { Stays (D.life old.old) (D.life old.new) }
     ensures size { length (E.life new.new).seen ≡ length (E.life new.old).seen }
     ensures moments { IsUnmarked (E.life new.old) → LeavesOnly (E.life new.old) (E.life new.new) (λ image. is_marked image ≡ false) }
@@ -53,7 +54,7 @@ fn copy_some<D: Disk, E: Disk>(
 ) -> Result<(), Fault>
     requires there { from + count ≤ length (D.life old.old).seen }
     requires room { at + count ≤ length (E.life new.old).seen }
-    requires behind { 8192 ≤ at }
+    requires behind { page_bytes ≤ at }
     ensures copied { OnOk result (IsTrue D.is_modelled → IsTrue E.is_modelled → part (E.life new.new).seen at count ≡ part (D.life old.old).seen from count) }
     ensures stays { Stays (D.life old.old) (D.life old.new) }
     ensures others { Torn at count (E.life new.old).seen (E.life new.new).seen }
@@ -62,8 +63,8 @@ fn copy_some<D: Disk, E: Disk>(
 {
     let bytes = match read_bytes(alloc, old, from, count) {
         Ok(bytes) => bytes,
-        Err(ReadFault::NoMemory) => return Err(Fault::NoMemory),
-        Err(ReadFault::DeviceFailed) => return Err(Fault::Device),
+        Err(DiskError::NoMemory) => return Err(Fault::NoMemory),
+        Err(DiskError::DeviceFailed) => return Err(Fault::Device),
     };
     match new.write_at(at, &bytes) {
         Ok(()) => Ok(()),

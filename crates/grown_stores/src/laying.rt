@@ -2,6 +2,7 @@
 
 ghost use Rattle.std.specs.Prelude.{◌≡◌, ◌+◌, ◌<◌, ◌≤◌, ◌∷◌, [], IfOk, IsTrue, OnOk, false, length};
 ghost use Rattle.drda_disk.specs.Disk.{CountsFault, LeavesOnly, Only, overlaid};
+ghost use Rattle.drda_disk.specs.Layout.{page_bytes};
 ghost use Rattle.half_store.specs.Active.{is_marked};
 ghost use Rattle.half_store.specs.Fresh.{IsUnmarked, head_bytes};
 
@@ -21,8 +22,8 @@ pub(crate) fn head_of(alloc: Global, size: usize, name: &str) -> Result<Vec<u8>,
 
 /// Writes a head behind its mark, and the closed gate of the second half, and syncs.
 pub(crate) fn lay<D: Disk>(disk: &mut D, head: &[u8], second_at: usize) -> Result<(), DiskFault>
-    requires front { 8 + length head.now ≤ 8192 }
-    requires behind { 8192 ≤ second_at }
+    requires front { 8 + length head.now ≤ page_bytes }
+    requires behind { page_bytes ≤ second_at }
     requires inside { second_at < length (D.life disk.old).seen }
     ensures unmarked { IsUnmarked (D.life disk.old) → LeavesOnly (D.life disk.old) (D.life disk.new) (λ c. is_marked c ≡ false) }
     ensures written { OnOk result (IsTrue D.is_modelled → (D.life disk.new).seen ≡ overlaid (overlaid (D.life disk.old).seen 8 head.now) second_at (0 ∷ [])) }

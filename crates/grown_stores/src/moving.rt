@@ -2,6 +2,7 @@
 
 ghost use Rattle.std.specs.Prelude.{◌≡◌, ◌+◌, ◌^◌, ◌<◌, ◌≤◌, IfErr, OnOk, false, length};
 ghost use Rattle.drda_disk.specs.Disk.{LeavesOnly, Only, Stays};
+ghost use Rattle.drda_disk.specs.Layout.{page_bytes};
 ghost use Rattle.half_store.specs.Active.{is_marked};
 ghost use Rattle.half_store.specs.Fresh.{IsUnmarked};
 ghost use Rattle.store_files.specs.Stores.{IsOfDevice};
@@ -26,7 +27,7 @@ pub(crate) fn move_half<D: Disk, E: Disk>(
 ) -> Result<(), Fault>
     requires there { from + count ≤ length (D.life old.old).seen }
     requires room { HasRoom count second_at (length head.now) (length (E.life new.old).seen) }
-    requires small { (from + count < 2 ^ 64) × (8192 + count < 2 ^ 64) }
+    requires small { (from + count < 2 ^ 64) × (page_bytes + count < 2 ^ 64) }
     ensures moved { OnOk result (IsMoved D.is_modelled E.is_modelled (D.life old.old).seen from count head.now second_at (E.life new.new).seen) }
     ensures durable { OnOk result (Only (E.life new.new)) }
     ensures size { length (E.life new.new).seen ≡ length (E.life new.old).seen }

@@ -2,6 +2,7 @@
 use Rattle.std.specs.Prelude.{ℕ, ◌+◌, ◌==◌, Bool, nat_lt, List, length, take, drop, slice_index, codes, bytes_eq, Result, Ok, Err, if◌then◌else◌}
 use Rattle.std.specs.Int.{w32, w64, from_be_bytes}
 use Rattle.drda_words.specs.Place.{part}
+use Rattle.drda_disk.specs.Layout.{page_bytes}
 use Rattle.half_store.specs.Layout.{is_store_size, half_len, is_name_len, are_printable}
 use Rattle.half_store.specs.Header.{half_in}
 use Rattle.half_store.specs.declared.layout.Half.{Half}
@@ -42,13 +43,13 @@ name_in size head = if is_marked head
 -- half that is not sound, the first before the second; at the first where none is open; at the second where both
 -- have one generation.
 unfoldable pub picked : ℕ → HalfState → HalfState → Result (Half × Header) ℕ
-picked h Unsound second = Err 8192
-picked h Closed Unsound = Err (8192 + h)
-picked h (Open a) Unsound = Err (8192 + h)
-picked h Closed Closed = Err 8192
+picked h Unsound second = Err page_bytes
+picked h Closed Unsound = Err (page_bytes + h)
+picked h (Open a) Unsound = Err (page_bytes + h)
+picked h Closed Closed = Err page_bytes
 picked h (Open a) Closed = Ok (First, a)
 picked h Closed (Open b) = Ok (Second, b)
-picked h (Open a) (Open b) = if a.generation == b.generation then Err (8192 + h) else (if nat_lt a.generation b.generation then Ok (Second, b) else Ok (First, a))
+picked h (Open a) (Open b) = if a.generation == b.generation then Err (page_bytes + h) else (if nat_lt a.generation b.generation then Ok (Second, b) else Ok (First, a))
 
 abbrev pub with_half : List ℕ → Result (Half × Header) ℕ → Result Store Refusal
 with_half name (Ok found) = Ok (record { name = name; half = found.0; header = found.1 })
@@ -62,7 +63,7 @@ with_name (Err refusal) half = Err refusal
 abbrev pub judged : List ℕ → Result Store Refusal
 judged image =
     let h = half_len (length image) in
-    with_name (name_in (length image) (take 39 image)) (picked h (half_in h (part image 8192 8192)) (half_in h (part image (8192 + h) 8192)))
+    with_name (name_in (length image) (take 39 image)) (picked h (half_in h (part image page_bytes page_bytes)) (half_in h (part image (page_bytes + h) page_bytes)))
 
 -- the store that an image is, or the first refusal
 unfoldable pub active_of : List ℕ → Result Store Refusal

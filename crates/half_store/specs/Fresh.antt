@@ -2,6 +2,7 @@
 use Rattle.std.specs.Prelude.{◌≡◌, ◌⊎◌, ℕ, ◌+◌, ◌-◌, Bool, true, false, ◌&&◌, List, ◌∷◌, ◌++◌, length, replicate, slice_index, Result, Ok, Err}
 use Rattle.std.specs.Int.{w32, w64, to_be_bytes}
 use Rattle.drda_disk.specs.Disk.{Life, Now}
+use Rattle.drda_disk.specs.Layout.{open_gate}
 use Rattle.half_store.specs.Layout.{is_store_size, is_name_len, are_printable}
 use Rattle.half_store.specs.Active.{Store, is_marked, not_a_store, active_of}
 use Rattle.half_store.specs.declared.layout.Half.TheVariants.{First}
@@ -80,4 +81,4 @@ abbrev pub head_page : ℕ → List ℕ → List ℕ
 head_page size name = head_bytes size name ++ zeros (8184 - length (head_bytes size name))
 
 abbrev pub front_bytes : ℕ → List ℕ → List ℕ
-front_bytes size name = head_page size name ++ ((165 ∷ header_bytes first_header) ++ zeros 8168)
+front_bytes size name = head_page size name ++ ((open_gate ∷ header_bytes first_header) ++ zeros 8168)

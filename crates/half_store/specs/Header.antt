@@ -4,6 +4,7 @@ use Rattle.std.specs.Prelude.{ℕ, ◌+◌, ◌*◌, ◌==◌, ◌&&◌, ◌<◌
 use Rattle.std.specs.List.{list_all}
 use Rattle.std.specs.Int.{w32, w64, from_be_bytes}
 use Rattle.drda_words.specs.Place.{part}
+use Rattle.drda_disk.specs.Layout.{open_gate, page_bytes}
 use Rattle.half_store.specs.declared.header.Header.{Header}
 use Rattle.half_store.specs.declared.header.Layout.{Layout}
 use Rattle.half_store.specs.declared.header.Layout.TheVariants.{One, Two}
@@ -29,7 +30,7 @@ header_in layout page = record {
 
 -- the pages and a byte for a gate lie in a half of h bytes, and the catalogue's pages are among the pages
 abbrev pub is_inside : ℕ → Header → Bool
-is_inside h header = nat_lt (8192 * (1 + header.pages)) h && nat_le (header.first_catalogue + header.catalogue_pages) header.pages
+is_inside h header = nat_lt (page_bytes * (1 + header.pages)) h && nat_le (header.first_catalogue + header.catalogue_pages) header.pages
 
 -- behind an open gate, by the layout that its number names
 abbrev pub opened : ℕ → List ℕ → Option Layout → HalfState
@@ -38,10 +39,10 @@ opened h page (Some layout) = if is_inside h (header_in layout page) && list_all
 
 -- What the page says of its half. The gate is open where it is A5; behind any other byte nothing is read.
 unfoldable pub half_in : ℕ → List ℕ → HalfState
-half_in h page = if slice_index page 0 == 165 then opened h page (layout_of (from_be_bytes w32 (part page 21 4))) else Closed
+half_in h page = if slice_index page 0 == open_gate then opened h page (layout_of (from_be_bytes w32 (part page 21 4))) else Closed
 
 -- a half that is open has room for its pages and a gate
 abbrev pub HasRoom : ℕ → HalfState → Type 0
 HasRoom h Closed = Unit {0}
 HasRoom h Unsound = Unit {0}
-HasRoom h (Open header) = 8192 * (1 + header.pages) < h
+HasRoom h (Open header) = page_bytes * (1 + header.pages) < h

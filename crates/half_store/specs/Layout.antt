@@ -1,6 +1,7 @@
 -- Where the parts of a store lie.
 use Rattle.std.specs.Prelude.{ℕ, ◌+◌, ◌-◌, ◌*◌, ◌/◌, Bool, ◌&&◌, nat_le, List}
 use Rattle.std.specs.List.{list_all}
+use Rattle.drda_disk.specs.Layout.{page_bytes}
 use Rattle.half_store.specs.declared.layout.Half.{Half}
 use Rattle.half_store.specs.declared.layout.Half.TheVariants.{First, Second}
 
@@ -10,12 +11,12 @@ is_store_size size = nat_le 2097152 size && nat_le size 1073741824
 
 -- the bytes of a half: whole pages, as many as there are twice behind the first page
 unfoldable pub half_len : ℕ → ℕ
-half_len size = 8192 * ((size - 8192) / 16384)
+half_len size = page_bytes * ((size - page_bytes) / 16384)
 
 -- the offset of a half
 abbrev pub offset_of : ℕ → Half → ℕ
-offset_of h First = 8192
-offset_of h Second = 8192 + h
+offset_of h First = page_bytes
+offset_of h Second = page_bytes + h
 
 -- the other one
 abbrev pub other_than : Half → Half

@@ -2,15 +2,16 @@
 use Rattle.std.specs.Prelude.{◌≡◌, ℕ, ◌+◌, ◌*◌, ◌<◌, List, Result, Ok, Err, string_bytes, String}
 use Rattle.std.specs.declared.alloc.Global.{Global}
 use Rattle.drda_disk.specs.Region.{end_of}
-use Rattle.drda_disk.specs.declared.through.ReadFault.{ReadFault}
-use Rattle.drda_disk.specs.declared.through.ReadFault.TheVariants as read
+use Rattle.drda_disk.specs.declared.errors.DiskError.{DiskError}
+use Rattle.drda_disk.specs.declared.errors.DiskError.TheVariants as read
+use Rattle.drda_disk.specs.Layout.{page_bytes}
 use Rattle.half_store.specs.Layout.{offset_of}
 use Rattle.half_store.specs.Active.{Store, Refusal, not_a_store, damaged}
 use Rattle.half_store.specs.declared.active.Active.{Active}
 use Rattle.half_store.specs.declared.errors.OpenError.{OpenError}
 use Rattle.half_store.specs.declared.errors.OpenError.TheVariants.{NotAStore, Damaged, DeviceFailed, NoMemory}
 
-abbrev pub open_error_of : ReadFault → OpenError
+abbrev pub open_error_of : DiskError → OpenError
 open_error_of read.NoMemory = NoMemory
 open_error_of read.DeviceFailed = DeviceFailed
 
@@ -23,8 +24,8 @@ store_of a = record {
 
 -- its journal's region is what is left of its half behind the header and the pages: a byte at least
 pub record IsBehindPages (h : ℕ) (a : Active) : Type 0 where
-  pub some : 8192 * (1 + a.pages) < h
-  pub begins : a.region.at ≡ offset_of h a.half + 8192 * (1 + a.pages)
+  pub some : page_bytes * (1 + a.pages) < h
+  pub begins : a.region.at ≡ offset_of h a.half + page_bytes * (1 + a.pages)
   pub ends : end_of a.region ≡ offset_of h a.half + h
 
 -- it is told as this store, and its journal's region with it

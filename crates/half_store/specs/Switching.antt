@@ -1,13 +1,12 @@
 -- Switching to the half that was written.
-use Rattle.std.specs.Prelude.{◌≡◌, ◌⊎◌, ℕ, ◌+◌, List, Result, Ok, Err}
+use Rattle.std.specs.Prelude.{◌≡◌, ◌⊎◌, ℕ, ◌+◌, List}
 use Rattle.drda_disk.specs.Disk.{Torn, overlaid}
+use Rattle.drda_disk.specs.Layout.{page_bytes}
 use Rattle.half_store.specs.Active.{Store}
 use Rattle.half_store.specs.Writing.{IsKept, half_of, generation_of, pages_of}
 use Rattle.half_store.specs.declared.header.Header.{Header}
 use Rattle.half_store.specs.declared.header.Layout.TheVariants.{Two}
 use Rattle.half_store.specs.declared.image.ImageWriter.{ImageWriter}
-use Rattle.half_store.specs.declared.errors.SwitchError.{SwitchError}
-use Rattle.half_store.specs.declared.errors.SwitchError.TheVariants.{NoMemory, DeviceFailed}
 
 -- the header of the image that is written, whose catalogue has so many pages from the first one on; its layout is 2
 abbrev pub header_of : ImageWriter → ℕ → ℕ → Header
@@ -20,20 +19,8 @@ switched store w first catalogue = record { name = store.name; half = half_of w;
 -- An image has the old active half, and outside of the other one, of h bytes from an offset on, it is the base; or it
 -- has the new one, and outside of that half's header page it is the file that was read before the switch.
 abbrev pub IsOldOrNew : List ℕ → List ℕ → Store → Store → ℕ → ℕ → List ℕ → Type 0
-IsOldOrNew base file old new at h image = IsKept base old at h image ⊎ IsKept file new at 8192 image
+IsOldOrNew base file old new at h image = IsKept base old at h image ⊎ IsKept file new at page_bytes image
 
 -- Behind a gate there are any bytes, in a base; or there are those that were written, and the gate is any byte.
 abbrev pub IsBehindGate : ℕ → ℕ → List ℕ → List ℕ → List ℕ → List ℕ → Type 0
 IsBehindGate at n base file bytes image = Torn (at + 1) n base image ⊎ Torn at 1 (overlaid file (at + 1) bytes) image
-
--- what holds where nothing was written
-abbrev pub OnRefusedToSwitch : {T : Type 0} → Result T SwitchError → Type 0 → Type 0
-OnRefusedToSwitch (Ok x) P = Unit {0}
-OnRefusedToSwitch (Err NoMemory) P = P
-OnRefusedToSwitch (Err DeviceFailed) P = Unit {0}
-
--- the device has failed once more exactly where that is told
-abbrev pub CountsSwitch : {T : Type 0} → Result T SwitchError → ℕ → ℕ → Type 0
-CountsSwitch (Ok x) old new = new ≡ old
-CountsSwitch (Err NoMemory) old new = new ≡ old
-CountsSwitch (Err DeviceFailed) old new = new ≡ old + 1

@@ -1,14 +1,16 @@
 -- Writing the half that is not active.
 use Rattle.std.specs.Prelude.{◌≡◌, ◌≢◌, ◌⊎◌, ℕ, ◌+◌, ◌-◌, ◌*◌, ◌^◌, ◌<◌, ◌≤◌, Bool, IsTrue, List, length, slice_index, OnErr, OnOk, Result, Ok, Err}
 use Rattle.drda_disk.specs.Disk.{Life, Torn, Within}
+use Rattle.drda_disk.specs.Errors.{OnFull}
+use Rattle.drda_disk.specs.declared.errors.DiskError.{DiskError}
+use Rattle.drda_disk.specs.declared.errors.DiskError.TheVariants as disk
+use Rattle.drda_disk.specs.declared.errors.WriteError.{WriteError}
+use Rattle.drda_disk.specs.declared.errors.WriteError.TheVariants as write
+use Rattle.drda_disk.specs.Layout.{open_gate, page_bytes}
 use Rattle.half_store.specs.Layout.{half_len, offset_of, other_than}
 use Rattle.half_store.specs.Active.{Store, active_of}
 use Rattle.half_store.specs.declared.layout.Half.{Half}
 use Rattle.half_store.specs.declared.image.ImageWriter.{ImageWriter}
-use Rattle.half_store.specs.declared.errors.BeginError.{BeginError}
-use Rattle.half_store.specs.declared.errors.BeginError.TheVariants as begin
-use Rattle.half_store.specs.declared.errors.PageError.{PageError}
-use Rattle.half_store.specs.declared.errors.PageError.TheVariants as page
 
 -- the half that is written, and how many bytes it has
 abbrev pub half_of : ImageWriter → Half
@@ -30,7 +32,7 @@ abbrev pub from_of : ImageWriter → ℕ
 from_of w = offset_of w.half_bytes w.half
 
 abbrev pub next_of : ImageWriter → ℕ
-next_of w = from_of w + 8192 * (1 + w.pages)
+next_of w = from_of w + page_bytes * (1 + w.pages)
 
 -- An image has this store's active half, and outside of n bytes from an offset on it is another image.
 pub record IsKept (base : List ℕ) (store : Store) (at n : ℕ) (image : List ℕ) : Type 0 where
@@ -49,45 +51,28 @@ pub record IsWriting (modelled : Bool) (disk : Life) (base : List ℕ) (store : 
   pub within : Within (from_of w + 1) (half_bytes_of w - 1) base disk
   pub active : active_of base ≡ Ok store
   pub other : half_of w ≡ other_than store.half
-  pub shut : slice_index base (from_of w) ≢ 165
+  pub shut : slice_index base (from_of w) ≢ open_gate
   pub halves : half_bytes_of w ≡ half_len (length base)
   pub generation : generation_of w ≡ store.header.generation + 1
 
 -- a byte is left, or it is torn where it was A5
 abbrev pub IsClosing : ℕ → List ℕ → List ℕ → Type 0
-IsClosing at file image = (image ≡ file) ⊎ ((slice_index file at ≡ 165) × Torn at 1 file image)
-
--- what holds where nothing was written
-abbrev pub OnRefusedToBegin : {T : Type 0} → Result T BeginError → Type 0 → Type 0
-OnRefusedToBegin (Ok x) P = Unit {0}
-OnRefusedToBegin (Err begin.NoMemory) P = P
-OnRefusedToBegin (Err begin.DeviceFailed) P = Unit {0}
+IsClosing at file image = (image ≡ file) ⊎ ((slice_index file at ≡ open_gate) × Torn at 1 file image)
 
 -- no memory is told exactly at the last generation
-abbrev pub SaysLast : {T : Type 0} → Result T BeginError → ℕ → Type 0
+abbrev pub SaysLast : {T : Type 0} → Result T DiskError → ℕ → Type 0
 SaysLast (Ok x) generation = generation < 2 ^ 64 - 1
-SaysLast (Err begin.NoMemory) generation = generation ≡ 2 ^ 64 - 1
-SaysLast (Err begin.DeviceFailed) generation = generation < 2 ^ 64 - 1
-
-abbrev pub CountsBegin : {T : Type 0} → Result T BeginError → ℕ → ℕ → Type 0
-CountsBegin (Ok x) old new = new ≡ old
-CountsBegin (Err begin.NoMemory) old new = new ≡ old
-CountsBegin (Err begin.DeviceFailed) old new = new ≡ old + 1
+SaysLast (Err disk.NoMemory) generation = generation ≡ 2 ^ 64 - 1
+SaysLast (Err disk.DeviceFailed) generation = generation < 2 ^ 64 - 1
 
 -- a page more does not fit, with a byte for a gate behind it, exactly where that is told
-abbrev pub SaysFull : {T : Type 0} → Result T PageError → ℕ → ℕ → Type 0
+abbrev pub SaysFull : {T : Type 0} → Result T WriteError → ℕ → ℕ → Type 0
 SaysFull (Ok x) need room = need ≤ room
-SaysFull (Err page.DeviceFailed) need room = need ≤ room
-SaysFull (Err (page.Full full)) need room = (full.need ≡ need) × (full.room ≡ room) × (room < need)
-
--- what holds where there is no room
-abbrev pub OnFull : {T : Type 0} → Result T PageError → Type 0 → Type 0
-OnFull (Ok x) P = Unit {0}
-OnFull (Err page.DeviceFailed) P = Unit {0}
-OnFull (Err (page.Full full)) P = P
+SaysFull (Err write.DeviceFailed) need room = need ≤ room
+SaysFull (Err (write.Full full)) need room = (full.need ≡ need) × (full.room ≡ room) × (room < need)
 
 -- The same half is written, of the same generation; it has a page more, or none where the opposite is told.
-pub record GoesOn {T : Type 0} (result : Result T PageError) (w after : ImageWriter) : Type 0 where
+pub record GoesOn {T : Type 0} (result : Result T WriteError) (w after : ImageWriter) : Type 0 where
   pub half : half_of after ≡ half_of w
   pub half_bytes : half_bytes_of after ≡ half_bytes_of w
   pub generation : generation_of after ≡ generation_of w
@@ -95,11 +80,6 @@ pub record GoesOn {T : Type 0} (result : Result T PageError) (w after : ImageWri
   pub still : OnErr result (after ≡ w)
 
 -- That there is no room for a page more is told exactly where there is none, and before anything is written.
-pub record TellsPage {T : Type 0} (result : Result T PageError) (w : ImageWriter) (Unwritten : Type 0) : Type 0 where
-  pub full : SaysFull result (8192 * (2 + pages_of w) + 1) (half_bytes_of w)
+pub record TellsPage {T : Type 0} (result : Result T WriteError) (w : ImageWriter) (Unwritten : Type 0) : Type 0 where
+  pub full : SaysFull result (page_bytes * (2 + pages_of w) + 1) (half_bytes_of w)
   pub unwritten : OnFull result Unwritten
-
-abbrev pub CountsPage : {T : Type 0} → Result T PageError → ℕ → ℕ → Type 0
-CountsPage (Ok x) old new = new ≡ old
-CountsPage (Err (page.Full full)) old new = new ≡ old
-CountsPage (Err page.DeviceFailed) old new = new ≡ old + 1

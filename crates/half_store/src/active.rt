@@ -1,13 +1,14 @@
 //! The active half of a store.
 ghost use Rattle.std.specs.Prelude.{◌≡◌, ◌+◌, ◌*◌, ◌^◌, ◌<◌, ℕ, IfOk, string_bytes};
+ghost use Rattle.drda_disk.specs.Layout.{page_bytes};
 ghost use Rattle.half_store.specs.Header.{HasRoom};
 ghost use Rattle.half_store.specs.Active.{picked, with_half};
 ghost use Rattle.half_store.specs.Opened.{Tells, IsBehindPages, store_of, CountsOpen};
 
 use crate::header::HalfState;
-use crate::layout::{FIRST_AT, PAGE_BYTES};
+use crate::layout::FIRST_AT;
 use crate::{Half, Header, Layout, OpenError};
-use drda_disk::Region;
+use drda_disk::{PAGE_BYTES, Region};
 
 /// The half of a store that counts, and the name of its database.
 #[derive(Debug, Drop)]
@@ -34,7 +35,7 @@ fn picked(half_bytes: usize, first: HalfState, second: HalfState) -> Result<(Hal
     requires first { HasRoom half_bytes first }
     requires second { HasRoom half_bytes second }
     ensures picked { result ≡ picked half_bytes first second }
-    ensures room { IfOk result (λ found. 8192 * (1 + found.1.pages) < half_bytes) }
+    ensures room { IfOk result (λ found. page_bytes * (1 + found.1.pages) < half_bytes) }
 {
     match (first, second) {
         (HalfState::Unsound, _) => Err(FIRST_AT),
@@ -57,7 +58,7 @@ fn picked(half_bytes: usize, first: HalfState, second: HalfState) -> Result<(Hal
 /// A half of so many bytes that counts, by its header.
 pub(crate) fn active_at(half_bytes: usize, name: String, half: Half, header: Header) -> Active
     requires small { half_bytes < 2 ^ 40 }
-    requires room { 8192 * (1 + header.pages) < half_bytes }
+    requires room { page_bytes * (1 + header.pages) < half_bytes }
     ensures store { store_of result ≡ record { name = string_bytes name; half = half; header = header } }
     ensures region { IsBehindPages half_bytes result }
 {

@@ -1,29 +1,31 @@
 //! Beginning to write the half that is not active.
 ghost use Rattle.std.specs.Prelude.{◌≡◌, ◌≢◌, ◌+◌, ◌-◌, ◌^◌, ◌<◌, ◌≤◌, IsTrue, length, slice_index, OnOk, IfOk, Ok};
 ghost use Rattle.drda_disk.specs.Disk.{Only, Torn, LeavesOnly, CountsFault};
+ghost use Rattle.drda_disk.specs.Errors.{OnNoMemory, CountsError};
+ghost use Rattle.drda_disk.specs.Layout.{open_gate};
 ghost use Rattle.half_store.specs.Layout.{is_store_size, half_len, offset_of, other_than};
 ghost use Rattle.half_store.specs.Active.{active_of};
 ghost use Rattle.half_store.specs.Opened.{store_of};
-ghost use Rattle.half_store.specs.Writing.{IsEmpty, IsKept, IsWriting, half_of, half_bytes_of, IsClosing, OnRefusedToBegin, SaysLast, CountsBegin};
+ghost use Rattle.half_store.specs.Writing.{IsEmpty, IsKept, IsWriting, half_of, half_bytes_of, IsClosing, SaysLast};
 
-use crate::header::{CLOSED, OPEN};
+use crate::header::CLOSED;
 use crate::layout::half_bytes;
-use crate::{Active, BeginError, ImageWriter};
-use drda_disk::{Disk, DiskFault, write_through};
+use crate::{Active, ImageWriter};
+use drda_disk::{Disk, DiskError, DiskFault, OPEN_GATE, write_through};
 
 /// Closes the gate at an offset where it is open, and syncs. A closed one is not written, since a
 /// torn write could open it.
 fn close_gate<D: Disk>(disk: &mut D, at: usize) -> Result<(), DiskFault>
     requires { at + 1 ≤ length (D.life disk.old).seen }
     ensures any_moment { IsTrue D.is_modelled → Only (D.life disk.old) → LeavesOnly (D.life disk.old) (D.life disk.new) (IsClosing at (D.life disk.old).seen) }
-    ensures shut { OnOk result (IsTrue D.is_modelled → slice_index (D.life disk.new).seen at ≢ 165) }
+    ensures shut { OnOk result (IsTrue D.is_modelled → slice_index (D.life disk.new).seen at ≢ open_gate) }
     ensures durable { OnOk result (Only (D.life disk.new)) }
     ensures others { Torn at 1 (D.life disk.old).seen (D.life disk.new).seen }
     ensures cause { CountsFault result (D.life disk.old).faults (D.life disk.new).faults }
 {
     let mut gate = [0u8; 1];
     disk.read_at(at, &mut gate)?;
-    if gate[0] != OPEN {
+    if gate[0] != OPEN_GATE {
         disk.sync()?;
         return Ok(());
     }
@@ -44,7 +46,7 @@ fn following(generation: u64) -> u64
 ///
 /// `NoMemory` comes exactly where the active half has the last generation, 2^64 - 1, and before any
 /// device call.
-pub fn begin_image<D: Disk>(disk: &mut D, active: &Active) -> Result<ImageWriter, BeginError>
+pub fn begin_image<D: Disk>(disk: &mut D, active: &Active) -> Result<ImageWriter, DiskError>
     requires { IsTrue (is_store_size (length (D.life disk.old).seen)) }
     ensures any_moment { IsTrue D.is_modelled → Only (D.life disk.old) → active_of (D.life disk.old).seen ≡ Ok (store_of active.now) →
         LeavesOnly (D.life disk.old) (D.life disk.new)
@@ -55,11 +57,11 @@ pub fn begin_image<D: Disk>(disk: &mut D, active: &Active) -> Result<ImageWriter
     ensures empty { IfOk result (IsEmpty (length (D.life disk.new).seen)) }
     ensures others { Torn (offset_of (half_len (length (D.life disk.old).seen)) (other_than active.now.half)) 1 (D.life disk.old).seen (D.life disk.new).seen }
     ensures last { SaysLast result active.now.generation }
-    ensures refused { OnRefusedToBegin result (disk.new ≡ disk.old) }
-    ensures cause { CountsBegin result (D.life disk.old).faults (D.life disk.new).faults }
+    ensures refused { OnNoMemory result (disk.new ≡ disk.old) }
+    ensures cause { CountsError result (D.life disk.old).faults (D.life disk.new).faults }
 {
     if active.generation == u64::MAX {
-        return Err(BeginError::NoMemory);
+        return Err(DiskError::NoMemory);
     }
     let half_bytes = half_bytes(disk.size());
     let half = active.half.other();

@@ -1,7 +1,7 @@
 //! Why a call on a store was refused.
 ghost use Rattle.std.specs.Prelude.{◌≡◌};
 
-use drda_disk::{DiskFault, ReadFault};
+use drda_disk::{DiskError, DiskFault};
 use std::alloc::AllocError;
 use thiserror::Error;
 
@@ -40,15 +40,15 @@ impl From<DiskFault> for OpenError {
     }
 }
 
-impl From<ReadFault> for OpenError {
+impl From<DiskError> for OpenError {
     ghost use Rattle.half_store.specs.Opened.{open_error_of};
 
     ghost from_gives = { λ fault e. e ≡ open_error_of fault };
 
-    fn from(fault: ReadFault) -> Self {
+    fn from(fault: DiskError) -> Self {
         match fault {
-            ReadFault::NoMemory => OpenError::NoMemory,
-            ReadFault::DeviceFailed => OpenError::DeviceFailed,
+            DiskError::NoMemory => OpenError::NoMemory,
+            DiskError::DeviceFailed => OpenError::DeviceFailed,
         }
     }
 }
@@ -84,81 +84,5 @@ impl From<DiskFault> for FormatError {
 
     fn from(_: DiskFault) -> Self {
         FormatError::DeviceFailed
-    }
-}
-
-/// There is no room: `need` bytes are asked for and `room` are there.
-#[derive(Clone, Copy, Debug, PartialEq, Eq, Error)]
-#[error("{need} bytes are needed and there is room for {room}")]
-pub struct Full {
-    pub need: usize,
-    pub room: usize,
-}
-
-/// Why no image was begun.
-#[derive(Clone, Copy, Debug, PartialEq, Eq, Error)]
-pub enum BeginError {
-    /// The active half has the last generation.
-    #[error("no memory")]
-    NoMemory,
-    #[error("the device failed")]
-    DeviceFailed,
-}
-
-impl From<DiskFault> for BeginError {
-    ghost use Rattle.half_store.specs.declared.errors.BeginError.TheVariants.{DeviceFailed};
-
-    ghost from_gives = { λ _ e. e ≡ DeviceFailed };
-
-    fn from(_: DiskFault) -> Self {
-        BeginError::DeviceFailed
-    }
-}
-
-/// Why no page was written.
-#[derive(Clone, Copy, Debug, PartialEq, Eq, Error)]
-pub enum PageError {
-    #[error(transparent)]
-    Full(Full),
-    #[error("the device failed")]
-    DeviceFailed,
-}
-
-impl From<DiskFault> for PageError {
-    ghost use Rattle.half_store.specs.declared.errors.PageError.TheVariants.{DeviceFailed};
-
-    ghost from_gives = { λ _ e. e ≡ DeviceFailed };
-
-    fn from(_: DiskFault) -> Self {
-        PageError::DeviceFailed
-    }
-}
-
-/// Why no image became the active one.
-#[derive(Clone, Copy, Debug, PartialEq, Eq, Error)]
-pub enum SwitchError {
-    #[error("no memory")]
-    NoMemory,
-    #[error("the device failed")]
-    DeviceFailed,
-}
-
-impl From<AllocError> for SwitchError {
-    ghost use Rattle.half_store.specs.declared.errors.SwitchError.TheVariants.{NoMemory};
-
-    ghost from_gives = { λ _ e. e ≡ NoMemory };
-
-    fn from(_: AllocError) -> Self {
-        SwitchError::NoMemory
-    }
-}
-
-impl From<DiskFault> for SwitchError {
-    ghost use Rattle.half_store.specs.declared.errors.SwitchError.TheVariants.{DeviceFailed};
-
-    ghost from_gives = { λ _ e. e ≡ DeviceFailed };
-
-    fn from(_: DiskFault) -> Self {
-        SwitchError::DeviceFailed
     }
 }

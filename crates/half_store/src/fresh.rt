@@ -1,11 +1,11 @@
 //! The bytes of a store's pages.
 ghost use Rattle.std.specs.Prelude.{◌≡◌, ◌-◌, ◌≤◌, ◌++◌, OnOk, IfOk, length};
+ghost use Rattle.drda_disk.specs.Layout.{page_bytes};
 ghost use Rattle.half_store.specs.Fresh.{zeros, head_bytes, header_bytes, front_bytes};
 
 use crate::head::{LAYOUT, MARK_BYTES};
-use crate::header::OPEN;
-use crate::layout::PAGE_BYTES;
 use crate::{Header, Layout};
+use drda_disk::{OPEN_GATE, PAGE_BYTES};
 use std::alloc::{AllocError, Global};
 
 /// The header of a store's first image.
@@ -57,8 +57,8 @@ fn pad(bytes: &mut Vec<u8>, to: usize) -> Result<(), AllocError>
 
 /// A page of zeros.
 pub(crate) fn blank_page(alloc: Global) -> Result<Vec<u8>, AllocError>
-    ensures items { IfOk result (λ bytes. bytes.items ≡ zeros 8192) }
-    ensures len { IfOk result (λ bytes. length bytes.items ≡ 8192) }
+    ensures items { IfOk result (λ bytes. bytes.items ≡ zeros page_bytes) }
+    ensures len { IfOk result (λ bytes. length bytes.items ≡ page_bytes) }
 {
     let mut bytes = Vec::with_capacity(alloc, PAGE_BYTES)?;
     pad(&mut bytes, PAGE_BYTES)?;
@@ -86,7 +86,7 @@ pub(crate) fn fresh_front(alloc: Global, size: usize, name: &str) -> Result<Vec<
     let mut bytes = Vec::with_capacity(alloc, HEAD_PAGE_BYTES + PAGE_BYTES + 1)?;
     push_head(&mut bytes, size, name)?;
     pad(&mut bytes, HEAD_PAGE_BYTES)?;
-    bytes.push(OPEN)?;
+    bytes.push(OPEN_GATE)?;
     push_header(&mut bytes, FIRST_HEADER)?;
     pad(&mut bytes, HEAD_PAGE_BYTES + PAGE_BYTES + 1)?;
     Ok(bytes)

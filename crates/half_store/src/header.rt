@@ -3,12 +3,10 @@ ghost use Rattle.std.specs.Prelude.{◌≡◌, ◌==◌, ◌^◌, ◌<◌, ◌�
 ghost use Rattle.std.specs.List.{list_all};
 ghost use Rattle.std.specs.Int.{w32, from_be_bytes};
 ghost use Rattle.drda_words.specs.Place.{part};
+ghost use Rattle.drda_disk.specs.Layout.{page_bytes};
 ghost use Rattle.half_store.specs.Header.{header_in, is_inside, half_in, layout_of, layout_word, opened, HasRoom};
 
-use crate::layout::PAGE_BYTES;
-
-/// An open gate: its half counts. Any other byte is a closed gate.
-pub(crate) const OPEN: u8 = 0xA5;
+use drda_disk::{OPEN_GATE, PAGE_BYTES};
 
 /// The offset of the layout in a header page.
 const LAYOUT_AT: usize = 21;
@@ -96,7 +94,7 @@ fn are_zeros(bytes: &[u8]) -> bool
 
 /// The layout that a header page names.
 fn layout_in(page: &[u8]) -> Option<Layout>
-    requires { length page.now ≡ 8192 }
+    requires { length page.now ≡ page_bytes }
     ensures { result ≡ layout_of (from_be_bytes w32 (part page.now 21 4)) }
 {
     let (word, _) = page[LAYOUT_AT..].split_at(4);
@@ -105,7 +103,7 @@ fn layout_in(page: &[u8]) -> Option<Layout>
 
 /// The header of this layout that a page has behind its gate.
 fn header_in(layout: Layout, page: &[u8]) -> Header
-    requires { length page.now ≡ 8192 }
+    requires { length page.now ≡ page_bytes }
     ensures { result ≡ header_in layout page.now }
 {
     let [
@@ -146,7 +144,7 @@ fn header_in(layout: Layout, page: &[u8]) -> Header
 
 /// What the header of this layout says of its half, behind an open gate.
 fn opened_as(half_bytes: usize, page: &[u8], layout: Layout) -> HalfState
-    requires { length page.now ≡ 8192 }
+    requires { length page.now ≡ page_bytes }
     ensures state { result ≡ opened half_bytes page.now (Some layout) }
     ensures room { HasRoom half_bytes result }
 {
@@ -161,11 +159,11 @@ fn opened_as(half_bytes: usize, page: &[u8], layout: Layout) -> HalfState
 /// What a header page of a half of so many bytes reads as.
 #[tactic(auto, unfolding(crate::specs::Header::half_in))]
 pub(crate) fn half_in(half_bytes: usize, page: &[u8]) -> HalfState
-    requires { length page.now ≡ 8192 }
+    requires { length page.now ≡ page_bytes }
     ensures state { result ≡ half_in half_bytes page.now }
     ensures room { HasRoom half_bytes result }
 {
-    if page[0] != OPEN {
+    if page[0] != OPEN_GATE {
         return HalfState::Closed;
     }
     match layout_in(page) {

@@ -2,10 +2,10 @@
 ghost use Rattle.std.specs.Prelude.{◌≡◌, ◌+◌, ◌-◌, ◌*◌, ◌^◌, ◌<◌, ◌≤◌, IsTrue, List, ℕ, length, OnOk};
 ghost use Rattle.drda_words.specs.Place.{part};
 ghost use Rattle.drda_disk.specs.Disk.{Torn, LeavesOnly};
+ghost use Rattle.drda_disk.specs.Layout.{page_bytes};
 
-use crate::layout::PAGE_BYTES;
-use crate::{Full, Half, PageError};
-use drda_disk::{Disk, Region};
+use crate::Half;
+use drda_disk::{Disk, Full, PAGE_BYTES, Region, WriteError};
 
 /// Writes an image into the half that is not active, behind its closed gate: its pages one behind
 /// another. One that is dropped leaves the active half as it is. Between its calls the disk is only
@@ -17,33 +17,34 @@ pub struct ImageWriter {
     pub(crate) generation: u64,
     pub(crate) pages: u32,
     ghost small: { half_bytes ≤ 2 ^ 30 },
-    ghost fits: { 8192 * (1 + pages) < half_bytes },
+    ghost fits: { page_bytes * (1 + pages) < half_bytes },
 }
 
 impl ImageWriter {
     ghost use Rattle.drda_disk.specs.Region.{end_of};
     ghost use Rattle.half_store.specs.Active.{Store};
-    ghost use Rattle.half_store.specs.Writing.{GoesOn, IsKept, IsWriting, TellsPage, half_bytes_of, pages_of, from_of, next_of, CountsPage};
+    ghost use Rattle.half_store.specs.Writing.{GoesOn, IsKept, IsWriting, TellsPage, half_bytes_of, pages_of, from_of, next_of};
+    ghost use Rattle.drda_disk.specs.Errors.{CountsWrite};
 
     /// Writes a page of 8,192 bytes behind the others. `Full` comes exactly where the half has no
     /// room for it and for a gate behind it; `need` is what the half would take then and `room` what
     /// it has. It comes before any device call.
-    pub fn page<D: Disk>(&mut self, disk: &mut D, bytes: &[u8]) -> Result<(), PageError>
-        requires page { length bytes.now ≡ 8192 }
+    pub fn page<D: Disk>(&mut self, disk: &mut D, bytes: &[u8]) -> Result<(), WriteError>
+        requires page { length bytes.now ≡ page_bytes }
         requires inside { from_of self.old + half_bytes_of self.old ≤ length (D.life disk.old).seen }
         // No moment of it changes the active half.
         ensures any_moment { (base : List ℕ) (store : Store) → IsWriting D.is_modelled (D.life disk.old) base store self.old →
             LeavesOnly (D.life disk.old) (D.life disk.new) (IsKept base store (from_of self.old + 1) (half_bytes_of self.old - 1)) }
         ensures writing { (base : List ℕ) (store : Store) → IsWriting D.is_modelled (D.life disk.old) base store self.old → IsWriting D.is_modelled (D.life disk.new) base store self.new }
-        ensures written { OnOk result (IsTrue D.is_modelled → part (D.life disk.new).seen (next_of self.old) 8192 ≡ bytes.now) }
-        ensures others { Torn (next_of self.old) 8192 (D.life disk.old).seen (D.life disk.new).seen }
+        ensures written { OnOk result (IsTrue D.is_modelled → part (D.life disk.new).seen (next_of self.old) page_bytes ≡ bytes.now) }
+        ensures others { Torn (next_of self.old) page_bytes (D.life disk.old).seen (D.life disk.new).seen }
         ensures goes_on { GoesOn result self.old self.new }
         ensures room { TellsPage result self.old (disk.new ≡ disk.old) }
-        ensures cause { CountsPage result (D.life disk.old).faults (D.life disk.new).faults }
+        ensures cause { CountsWrite result (D.life disk.old).faults (D.life disk.new).faults }
     {
         let need = PAGE_BYTES * (2 + self.pages as usize) + 1;
         if need > self.half_bytes {
-            return Err(PageError::Full(Full {
+            return Err(WriteError::Full(Full {
                 need,
                 room: self.half_bytes,
             }));

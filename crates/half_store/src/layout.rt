@@ -1,9 +1,9 @@
 //! Where the parts of a store lie.
 ghost use Rattle.std.specs.Prelude.{◌≡◌, ◌+◌, ◌*◌, ◌^◌, ◌<◌, ◌≤◌, IsTrue};
+ghost use Rattle.drda_disk.specs.Layout.{page_bytes};
 ghost use Rattle.half_store.specs.Layout.{is_store_size, half_len, are_printable};
 
-/// The bytes of a page.
-pub(crate) const PAGE_BYTES: usize = 8_192;
+use drda_disk::PAGE_BYTES;
 
 /// The offset of the first half: behind the page of the head.
 pub const FIRST_AT: usize = PAGE_BYTES;
@@ -61,7 +61,7 @@ pub fn half_bytes(size: usize) -> usize
     requires { IsTrue (is_store_size size) }
     ensures len { result ≡ half_len size }
     ensures large { 1040384 ≤ result }
-    ensures inside { 8192 + (result + result) ≤ size }
+    ensures inside { page_bytes + (result + result) ≤ size }
     ensures small { result ≤ 2 ^ 30 }
 {
     PAGE_BYTES * ((size - PAGE_BYTES) / (2 * PAGE_BYTES))

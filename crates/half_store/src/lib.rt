@@ -15,7 +15,7 @@ mod switching;
 
 pub use active::Active;
 pub use begin::begin_image;
-pub use errors::{BeginError, FormatError, Full, OpenError, PageError, SwitchError};
+pub use errors::{FormatError, OpenError};
 pub use formatting::{format, is_store};
 pub use fresh::push_head;
 pub use head::{MARK, MARK_BYTES};

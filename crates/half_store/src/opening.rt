@@ -2,7 +2,8 @@
 ghost use Rattle.std.specs.Prelude.{◌≡◌, ◌+◌, ◌≤◌, IsTrue, OnOk, IfOk, length};
 ghost use Rattle.drda_words.specs.Place.{part};
 ghost use Rattle.drda_disk.specs.Disk.{Stays};
-ghost use Rattle.drda_disk.specs.Through.{CountsReadFault};
+ghost use Rattle.drda_disk.specs.Errors.{CountsError};
+ghost use Rattle.drda_disk.specs.Layout.{page_bytes};
 ghost use Rattle.half_store.specs.Layout.{half_len, is_store_size};
 ghost use Rattle.half_store.specs.Header.{half_in, HasRoom};
 ghost use Rattle.half_store.specs.Active.{active_of};
@@ -11,9 +12,9 @@ ghost use Rattle.half_store.specs.Opened.{Tells, IsBehindPages, CountsOpen};
 use crate::active::judged;
 use crate::head::read_name;
 use crate::header::{HalfState, half_in};
-use crate::layout::{FIRST_AT, PAGE_BYTES, half_bytes, is_store_size};
+use crate::layout::{FIRST_AT, half_bytes, is_store_size};
 use crate::{Active, OpenError};
-use drda_disk::{Disk, ReadFault, read_bytes};
+use drda_disk::{Disk, DiskError, PAGE_BYTES, read_bytes};
 use std::alloc::Global;
 
 /// What the header page of a half at an offset reads as.
@@ -22,12 +23,12 @@ fn read_half<D: Disk>(
     disk: &mut D,
     half_bytes: usize,
     at: usize,
-) -> Result<HalfState, ReadFault>
-    requires { at + 8192 ≤ length (D.life disk.old).seen }
-    ensures state { IfOk result (λ state. IsTrue D.is_modelled → state ≡ half_in half_bytes (part (D.life disk.old).seen at 8192)) }
+) -> Result<HalfState, DiskError>
+    requires { at + page_bytes ≤ length (D.life disk.old).seen }
+    ensures state { IfOk result (λ state. IsTrue D.is_modelled → state ≡ half_in half_bytes (part (D.life disk.old).seen at page_bytes)) }
     ensures room { IfOk result (HasRoom half_bytes) }
     ensures stays { Stays (D.life disk.old) (D.life disk.new) }
-    ensures cause { CountsReadFault result (D.life disk.old).faults (D.life disk.new).faults }
+    ensures cause { CountsError result (D.life disk.old).faults (D.life disk.new).faults }
 {
     let page = read_bytes(alloc, disk, at, PAGE_BYTES)?;
     Ok(half_in(half_bytes, &page))

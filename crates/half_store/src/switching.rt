@@ -1,16 +1,17 @@
 //! Switching to the image that was written.
 ghost use Rattle.std.specs.Prelude.{◌≡◌, ◌+◌, ◌-◌, ◌^◌, ◌<◌, ◌≤◌, ℕ, List, [], ◌∷◌, IsTrue, length, OnOk, IfOk};
 ghost use Rattle.drda_disk.specs.Disk.{Only, Torn, LeavesOnly, Within, overlaid, CountsFault};
+ghost use Rattle.drda_disk.specs.Errors.{OnNoMemory, CountsError};
+ghost use Rattle.drda_disk.specs.Layout.{open_gate, page_bytes};
 ghost use Rattle.half_store.specs.Active.{active_of};
 ghost use Rattle.half_store.specs.Opened.{store_of, IsToldAs};
 ghost use Rattle.half_store.specs.Writing.{IsWriting, half_bytes_of, pages_of, from_of};
-ghost use Rattle.half_store.specs.Switching.{IsBehindGate, IsOldOrNew, switched, OnRefusedToSwitch, CountsSwitch};
+ghost use Rattle.half_store.specs.Switching.{IsBehindGate, IsOldOrNew, switched};
 
 use crate::active::active_at;
 use crate::fresh::header_page;
-use crate::header::OPEN;
-use crate::{Active, Header, ImageWriter, Layout, SwitchError};
-use drda_disk::{Disk, DiskFault, write_through};
+use crate::{Active, Header, ImageWriter, Layout};
+use drda_disk::{Disk, DiskError, DiskFault, OPEN_GATE, write_through};
 use std::alloc::Global;
 
 /// Writes what stands behind a closed gate and syncs, then opens the gate and syncs.
@@ -20,12 +21,12 @@ fn open_gate<D: Disk>(disk: &mut D, at: usize, behind: &[u8]) -> Result<(), Disk
     ensures any_moment { (n : ℕ) (base : List ℕ) → IsTrue D.is_modelled → length behind.now ≤ n → Within (at + 1) n base (D.life disk.old) →
         LeavesOnly (D.life disk.old) (D.life disk.new) (IsBehindGate at n base (D.life disk.old).seen behind.now) }
     ensures durable { OnOk result (Only (D.life disk.new)) }
-    ensures written { OnOk result (IsTrue D.is_modelled → (D.life disk.new).seen ≡ overlaid (overlaid (D.life disk.old).seen (at + 1) behind.now) at (165 ∷ [])) }
+    ensures written { OnOk result (IsTrue D.is_modelled → (D.life disk.new).seen ≡ overlaid (overlaid (D.life disk.old).seen (at + 1) behind.now) at (open_gate ∷ [])) }
     ensures others { Torn at (1 + length behind.now) (D.life disk.old).seen (D.life disk.new).seen }
     ensures cause { CountsFault result (D.life disk.old).faults (D.life disk.new).faults }
 {
     write_through(disk, at + 1, behind)?;
-    write_through(disk, at, &[OPEN])?;
+    write_through(disk, at, &[OPEN_GATE])?;
     Ok(())
 }
 
@@ -44,7 +45,7 @@ impl ImageWriter {
         active: &Active,
         first_catalogue: u32,
         catalogue_pages: u32,
-    ) -> Result<Active, SwitchError>
+    ) -> Result<Active, DiskError>
         requires inside { from_of self + half_bytes_of self ≤ length (D.life disk.old).seen }
         requires catalogue { first_catalogue + catalogue_pages ≤ pages_of self }
         ensures any_moment { (base : List ℕ) → IsWriting D.is_modelled (D.life disk.old) base (store_of active.now) self →
@@ -54,9 +55,9 @@ impl ImageWriter {
             active_of (D.life disk.new).seen ≡ Ok (switched (store_of active.now) self first_catalogue catalogue_pages)) }
         ensures durable { OnOk result (Only (D.life disk.new)) }
         ensures told { IfOk result (IsToldAs (switched (store_of active.now) self first_catalogue catalogue_pages) (half_bytes_of self)) }
-        ensures others { Torn (from_of self) 8192 (D.life disk.old).seen (D.life disk.new).seen }
-        ensures refused { OnRefusedToSwitch result (disk.new ≡ disk.old) }
-        ensures cause { CountsSwitch result (D.life disk.old).faults (D.life disk.new).faults }
+        ensures others { Torn (from_of self) page_bytes (D.life disk.old).seen (D.life disk.new).seen }
+        ensures refused { OnNoMemory result (disk.new ≡ disk.old) }
+        ensures cause { CountsError result (D.life disk.old).faults (D.life disk.new).faults }
     {
         let header = Header {
             generation: self.generation,

@@ -2,12 +2,9 @@
 ghost use Rattle.std.specs.Prelude.{◌≤◌, IsTrue};
 ghost use Rattle.drda_disk.specs.Region.{end_of};
 
-use drda_disk::{Disk, DiskFault, Region, read_bytes};
-use half_store::{Active, ImageWriter, PageError, SwitchError, begin_image, open};
+use drda_disk::{Disk, DiskError, DiskFault, PAGE_BYTES, Region, WriteError, read_bytes};
+use half_store::{Active, ImageWriter, begin_image, open};
 use std::alloc::{AllocError, Global};
-
-/// The bytes of a page.
-const PAGE_BYTES: usize = 8_192;
 
 /// Writes bytes to a disk.
 pub fn put<D: Disk>(disk: &mut D, at: usize, bytes: &[u8]) -> Result<(), DiskFault> {
@@ -83,9 +80,9 @@ fn write_page<D: Disk>(
     disk: &mut D,
     writer: &mut ImageWriter,
     page: &[u8],
-) -> Result<(), PageError> {
+) -> Result<(), WriteError> {
     if page.len() != PAGE_BYTES || !lies_on(writer.finish_pages(), disk.size()) {
-        return Err(PageError::DeviceFailed);
+        return Err(WriteError::DeviceFailed);
     }
     writer.page(disk, page)
 }
@@ -95,10 +92,10 @@ fn switch<D: Disk>(
     disk: &mut D,
     writer: ImageWriter,
     active: &Active,
-) -> Result<Active, SwitchError> {
+) -> Result<Active, DiskError> {
     let pages = writer.pages();
     if pages == 0 || !lies_on(writer.finish_pages(), disk.size()) {
-        return Err(SwitchError::DeviceFailed);
+        return Err(DiskError::DeviceFailed);
     }
     writer.switch(alloc, disk, active, pages - 1, 1)
 }

@@ -13,7 +13,7 @@ ghost use Rattle.journal_recorder.specs.Laying.{IsLaid, Refuses};
 use half_store::Layout;
 use std::alloc::{AllocError, Global};
 use tables::Change;
-use unit_journal::{Kind, LaidRecord};
+use unit_journal::{HEAD_BYTES, Kind, LaidRecord};
 use unit_locks::Claim;
 use unit_records::laws::decisions_have_room;
 use unit_records::{
@@ -23,9 +23,6 @@ use unit_records::{
 };
 use xa_calls::Xid;
 use xa_manager::Decision;
-
-/// The bytes of a record in front of its body.
-const HEAD_BYTES: usize = 6;
 
 /// A record, where it and the bytes that it holds back fit into this room and the bytes that it releases. A
 /// decision, a heuristic one and a forgetting always fit.

@@ -12,11 +12,11 @@ ghost use Rattle.unit_records.specs.Together.{FailsTogether};
 use crate::laying::{held_by, lay, released_by};
 use crate::laying_all::{LaidTogether, lay_all};
 use crate::made::MadeRecords;
-use drda_disk::{Disk, Region};
+use drda_disk::{Disk, Region, WriteError};
 use half_store::Layout;
 use row_pages::Pager;
 use std::alloc::Global;
-use unit_journal::{AppendError, Journal, LaidRecord, Staged};
+use unit_journal::{Journal, LaidRecord, Staged};
 use unit_records::{DeviceFailed, GroupError, RecordContents, RecordError, Recorder};
 
 /// Records in the journal of a disk, each record by four device calls: write, sync, gate, sync. Records
@@ -132,11 +132,11 @@ impl<D: Disk> DiskRecorder<D> {
                 self.made.note(laid.kind(), laid.body());
                 Ok(())
             }
-            Err(AppendError::Full(full)) => Err(RecordError::Full {
+            Err(WriteError::Full(full)) => Err(RecordError::Full {
                 need: full.need as u64,
                 room: full.room as u64,
             }),
-            Err(AppendError::DeviceFailed) => {
+            Err(WriteError::DeviceFailed) => {
                 self.is_failed = true;
                 self.made.leave_open(laid.kind(), laid.body());
                 Err(RecordError::DeviceFailed)
@@ -161,8 +161,8 @@ impl<D: Disk> DiskRecorder<D> {
                 self.made.note_all(&laid.group);
                 Ok(())
             }
-            Err(AppendError::Full(_)) => Err(GroupError::Refused),
-            Err(AppendError::DeviceFailed) => {
+            Err(WriteError::Full(_)) => Err(GroupError::Refused),
+            Err(WriteError::DeviceFailed) => {
                 self.is_failed = true;
                 self.made.leave_all_open(&laid.group);
                 Err(GroupError::DeviceFailed)

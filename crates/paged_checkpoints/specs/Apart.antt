@@ -1,5 +1,6 @@
 -- Tables whose pages lie apart from the half that is written.
 use Rattle.std.specs.Prelude.{◌≤◌, ℕ, ◌+◌, ◌*◌, Bool, IsTrue, List, length}
+use Rattle.drda_disk.specs.Layout.{page_bytes}
 use Rattle.half_store.specs.Active.{Store}
 use Rattle.half_store.specs.Layout.{half_len, offset_of, other_than}
 use Rattle.half_store.specs.Writing.{from_of}
@@ -24,7 +25,7 @@ pub record StandApart (modelled : Bool) (image : List ℕ) (store : Store) (tabl
 -- pages lie from an offset on, up to another one
 pub record LiesFrom (from end : ℕ) (places : Places) : Type 0 where
   pub first : from ≤ places.at
-  pub last : places.at + 8192 * length places.keys ≤ end
+  pub last : places.at + page_bytes * length places.keys ≤ end
 
 -- pages lie among those of a half
 abbrev pub LiesAmong : HalfPages → Places → Type 0

@@ -1,5 +1,6 @@
 -- Tables over pages that are laid anew.
 use Rattle.std.specs.Prelude.{◌≡◌, ℕ, ◌+◌, List, map}
+use Rattle.drda_disk.specs.Layout.{page_bytes}
 use Rattle.tables.specs.Tables.{Store, Table}
 use Rattle.table_map.specs.Stored.{Places}
 use Rattle.half_store.specs.Writing.{from_of, pages_of}
@@ -32,5 +33,5 @@ places_from at next tables = map (λ t. t.places) (laid_from at next tables)
 pub record LaysTable (file : List ℕ) (w after : ImageWriter) (e : List ℕ × Table) (entry : Entry) (pages : Places) : Type 0 where
   pub entry_is : entry ≡ entry_of_table (pages_of w) e
   pub many : pages_of after ≡ pages_of w + pages_of_table e.1
-  pub written : IsWritten forms file (from_of w + 8192) (laid_at (from_of w + 8192) (pages_of w) e)
-  pub places_are : pages ≡ (laid_at (from_of w + 8192) (pages_of w) e).places
+  pub written : IsWritten forms file (from_of w + page_bytes) (laid_at (from_of w + page_bytes) (pages_of w) e)
+  pub places_are : pages ≡ (laid_at (from_of w + page_bytes) (pages_of w) e).places

@@ -3,6 +3,7 @@ use Rattle.std.specs.Prelude.{◌≡◌, ◌⊎◌, ◌≤◌, ℕ, ◌+◌, ◌
 use Rattle.std.specs.List.{AllByRecursion}
 use Rattle.drda_disk.specs.Disk.{Life}
 use Rattle.drda_disk.specs.Region.{end_of}
+use Rattle.drda_disk.specs.Layout.{page_bytes}
 use Rattle.half_store.specs.Active.{Store}
 use Rattle.half_store.specs.Writing.{from_of, half_bytes_of, next_of, pages_of}
 use Rattle.half_store.specs.declared.image.ImageWriter.{ImageWriter}
@@ -57,13 +58,13 @@ pub record AreListed (w after : ImageWriter) (tables : Tables) (laid : LaidTable
 pub record AreWritten (file : List ℕ) (w after : ImageWriter) (tables : Tables) (laid : LaidTables) : Type 0 where
   pub places : map place_of laid.places.items ≡ entries_from 0 (all_shown tables)
   pub pages : pages_of after ≡ pages_of_tables (all_shown tables)
-  pub lists : laid.pages.items ≡ places_from (from_of w + 8192) 0 (all_shown tables)
-  pub written : AllByRecursion (IsWritten forms file (from_of w + 8192)) (laid_from (from_of w + 8192) 0 (all_shown tables))
+  pub lists : laid.pages.items ≡ places_from (from_of w + page_bytes) 0 (all_shown tables)
+  pub written : AllByRecursion (IsWritten forms file (from_of w + page_bytes)) (laid_from (from_of w + page_bytes) 0 (all_shown tables))
 
 -- the same with their catalogue behind them, of any device
 pub record AreIn (after : ImageWriter) (tables : Tables) (written : WrittenPages) : Type 0 where
   pub first : written.first_catalogue ≤ pages_of after
-  pub lie : AllByRecursion (LiesFrom (from_of after + 8192) (next_of after)) written.pages.items
+  pub lie : AllByRecursion (LiesFrom (from_of after + page_bytes) (next_of after)) written.pages.items
   pub count : length written.pages.items ≡ length tables
 
 -- and where the tables' pages could be read
@@ -84,7 +85,7 @@ pub record TellsPages {T : Type 0} (result : Result T ImageError) (end pages_end
 pub record IsLaidIn (w : ImageWriter) (tables : Tables) (held : ℕ) (r : Relaid) : Type 0 where
   pub count : length r.pages.items ≡ length tables
   pub among : AllByRecursion (LiesAmong (pages_of_active r.switched.active)) r.pages.items
-  pub pages : 8192 * r.switched.active.pages ≤ r.switched.active.region.at
+  pub pages : page_bytes * r.switched.active.pages ≤ r.switched.active.region.at
   pub front : r.switched.active.region.at ≤ from_of w + half_bytes_of w
   pub held_back : held_of r.switched.journal ≡ held
   pub ends : end_of (region_of r.switched.journal) ≡ from_of w + half_bytes_of w
@@ -95,9 +96,9 @@ pub record IsLaidIn (w : ImageWriter) (tables : Tables) (held : ℕ) (r : Relaid
 pub record IsLaidAnew (tables : PagedTables) (held size : ℕ) (r : Relaid) : Type 0 where
   pub count : length r.pages.items ≡ length (store_in tables)
   pub inside_half : AreLaid (LiesInside r.switched.active.region.at) r.pages.items (created_of tables.tables)
-  pub apart : (from end : ℕ) → (r.switched.active.region.at ≤ from) ⊎ (end + 8192 * r.switched.active.pages ≤ r.switched.active.region.at) → AreLaid (LiesOutside from end) r.pages.items (created_of tables.tables)
+  pub apart : (from end : ℕ) → (r.switched.active.region.at ≤ from) ⊎ (end + page_bytes * r.switched.active.pages ≤ r.switched.active.region.at) → AreLaid (LiesOutside from end) r.pages.items (created_of tables.tables)
   pub among : AllByRecursion (LiesAmong (pages_of_active r.switched.active)) r.pages.items
-  pub pages : 8192 * r.switched.active.pages ≤ r.switched.active.region.at
+  pub pages : page_bytes * r.switched.active.pages ≤ r.switched.active.region.at
   pub front : r.switched.active.region.at ≤ size
   pub held_back : held_of r.switched.journal ≡ held
   pub inside : end_of (region_of r.switched.journal) ≤ size

@@ -1,6 +1,7 @@
 //! The room that a checkpoint needs, counted before any of it is written.
 ghost use Rattle.std.specs.Prelude.{◌≡◌, ◌+◌, ◌*◌, ◌≤◌, ◌∷◌, [], ℕ, List, true, IsTrue, IfOk, OnOk, length};
 ghost use Rattle.drda_disk.specs.Disk.{Stays};
+ghost use Rattle.drda_disk.specs.Layout.{page_bytes};
 ghost use Rattle.row_pages.specs.Keeping.{CountsPageFault};
 ghost use Rattle.row_pages.specs.Laying.{counted, pages_with};
 ghost use Rattle.row_values.specs.Schema.{is_name};
@@ -16,10 +17,10 @@ ghost use Rattle.paged_tables.specs.TablesByName.{AreOnPages, LieInside};
 ghost use Rattle.paged_checkpoints.specs.Laying.{all_shown, created_entry};
 
 use checkpoint_writer::count_entry;
-use drda_disk::Disk;
+use drda_disk::{Disk, PAGE_BYTES};
 use key_map::laws::rows_have_their_forms;
 use paged_tables::{TableRef, TablesLeft};
-use row_pages::{PAGE_BYTES, PageCount, PageFault};
+use row_pages::{PageCount, PageFault};
 use std::alloc::{AllocError, Global};
 use table_map::SchemaKeys;
 use unit_journal::{Record, laid_len};
@@ -39,7 +40,7 @@ fn count_table<D: Disk>(
     table: TableRef<'_>,
     pages: &mut CountedPages,
 ) -> Result<(), PageFault>
-    requires inside { table.rows.now.places.at + 8192 * length table.rows.now.places.keys ≤ length (D.life disk.old).seen }
+    requires inside { table.rows.now.places.at + page_bytes * length table.rows.now.places.keys ≤ length (D.life disk.old).seen }
     requires name { is_name table.name.now ≡ true }
     ensures tables { (e : List ℕ × Stored) → IsLent e table.entry → IsTrue D.is_modelled → IsOnPages (D.life disk.old).seen e.1
         → OnOk result (pages.new.tables ≡ counted (pages.old.tables + pages_of_table (table_in e.1))) }
@@ -83,7 +84,7 @@ fn count_most(
 
 /// The bytes of a half with the pages that were counted, so many bytes of records and so many held back, up to 2^64 - 1.
 fn half_with(pages: &CountedPages, records: usize, held: usize) -> usize
-    ensures { result ≡ counted (8192 * (1 + pages.now.tables + pages_with pages.now.catalogue []) + (records + held + 1)) }
+    ensures { result ≡ counted (page_bytes * (1 + pages.now.tables + pages_with pages.now.catalogue []) + (records + held + 1)) }
 {
     let pages = pages
         .tables

@@ -2,6 +2,7 @@
 ghost use Rattle.std.specs.Prelude.{◌≡◌, ◌⊎◌, ◌+◌, ◌*◌, ◌^◌, ◌≤◌, ◌++◌, ◌∷◌, [], ℕ, List, true, IsTrue, IfOk, OnOk, length, map};
 ghost use Rattle.std.specs.List.{AllByRecursion};
 ghost use Rattle.drda_disk.specs.Disk.{Stays};
+ghost use Rattle.drda_disk.specs.Layout.{page_bytes};
 ghost use Rattle.row_values.specs.Schema.{is_name};
 ghost use Rattle.tables.specs.View.{is_store};
 ghost use Rattle.store_check.specs.Checkpoint.{forms};
@@ -14,10 +15,10 @@ ghost use Rattle.paged_tables.specs.TablesByName.{AddsPages, AreOnPages, ComesLa
 ghost use Rattle.paged_checkpoints.specs.Opening.{OpensCheckpoint, StandsIn, StandsOutside, name_in, noted_table, opened_of};
 
 use checkpoint_writer::StoredTable;
-use drda_disk::Disk;
+use drda_disk::{Disk, PAGE_BYTES};
 use half_store::Active;
 use paged_tables::{PagedTables, rows_stand_at_their_forms};
-use row_pages::{PAGE_BYTES, Pager};
+use row_pages::Pager;
 use row_values::is_name;
 use std::alloc::{AllocError, Global};
 use store_check::{
@@ -89,7 +90,7 @@ pub fn open_checkpoint<D: Disk>(
     pager: &mut Pager<D>,
     active: &Active,
 ) -> Result<PagedTables, CheckError>
-    requires pages { 8192 * active.now.pages ≤ active.now.region.at }
+    requires pages { page_bytes * active.now.pages ≤ active.now.region.at }
     requires small { active.now.region.at ≤ 2 ^ 40 }
     requires inside { active.now.region.at ≤ length (D.life pager.old).seen }
     ensures told { IsTrue D.is_modelled → OpensCheckpoint (D.life pager.old).seen (pages_of active.now) result }
@@ -97,7 +98,7 @@ pub fn open_checkpoint<D: Disk>(
     // The pages of all tables end in front of the half's journal, and so inside of the disk. They are the half's, and so
     // they lie outside of what ends in front of its pages or begins behind them.
     ensures inside { IfOk result (λ tables. (size : ℕ) → active.now.region.at ≤ size → LieInside size tables.tables) }
-    ensures apart { IfOk result (λ tables. (from end : ℕ) → (active.now.region.at ≤ from) ⊎ (end + 8192 * active.now.pages ≤ active.now.region.at) → LieOutside from end tables.tables) }
+    ensures apart { IfOk result (λ tables. (from end : ℕ) → (active.now.region.at ≤ from) ⊎ (end + page_bytes * active.now.pages ≤ active.now.region.at) → LieOutside from end tables.tables) }
     ensures stays { Stays (D.life pager.old) (D.life pager.new) }
     ensures cause { CountsCheck result (D.life pager.old).faults (D.life pager.new).faults }
 {

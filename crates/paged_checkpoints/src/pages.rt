@@ -1,5 +1,6 @@
 //! Writing the pages of a checkpoint.
 ghost use Rattle.std.specs.Prelude.{◌+◌, ◌*◌, IfOk, length};
+ghost use Rattle.drda_disk.specs.Layout.{page_bytes};
 ghost use Rattle.half_store.specs.Writing.{next_of};
 ghost use Rattle.checkpoint_writer.specs.Adding.{AddsPages, end_of_half};
 ghost use Rattle.checkpoint_writer.specs.Errors.{CountsImage};
@@ -38,7 +39,7 @@ pub(crate) fn write_pages<'a, D: Disk>(
     ensures listed { IfOk result (AreIn image.new tables.entry) }
     ensures written { AreReadable D.is_modelled (D.life disk.old).seen image.old tables.entry → IfOk result (HaveAll (D.life disk.new).seen image.new tables.entry) }
     ensures told { AreReadable D.is_modelled (D.life disk.old).seen image.old tables.entry
-        → TellsPages result (end_of_half image.old) (next_of image.old + 8192 * (pages_of_tables (all_shown tables.entry) + pages_of_catalogue (all_shown tables.entry))) }
+        → TellsPages result (end_of_half image.old) (next_of image.old + page_bytes * (pages_of_tables (all_shown tables.entry) + pages_of_catalogue (all_shown tables.entry))) }
     ensures cause { CountsImage result (D.life disk.old).faults (D.life disk.new).faults }
 {
     one_laying();

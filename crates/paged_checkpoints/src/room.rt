@@ -10,8 +10,8 @@ ghost use Rattle.paged_tables.specs.TablesByName.{AreOnPages, LieInside};
 
 use crate::counting::{most_bytes, needed_bytes};
 use checkpoint_writer::ImageError;
-use drda_disk::Disk;
-use half_store::{Full, half_bytes};
+use drda_disk::{Disk, Full};
+use half_store::half_bytes;
 use paged_tables::PagedTables;
 use std::alloc::Global;
 use unit_journal::Record;

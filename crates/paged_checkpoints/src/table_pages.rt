@@ -1,5 +1,6 @@
 //! Writing tables one behind another.
 ghost use Rattle.std.specs.Prelude.{◌≡◌, ◌+◌, ◌*◌, ◌≤◌, ◌++◌, ◌∷◌, ◌==◌, [], ℕ, List, OnOk, IfOk, IfErr, length, if◌then◌else◌};
+ghost use Rattle.drda_disk.specs.Layout.{page_bytes};
 ghost use Rattle.half_store.specs.Writing.{from_of, half_bytes_of, next_of};
 ghost use Rattle.checkpoint_writer.specs.Adding.{AddsPages, end_of_half};
 ghost use Rattle.checkpoint_writer.specs.Catalogue.{place_of};
@@ -51,14 +52,14 @@ fn write_table<'a, D: Disk>(
     table: TableRef<'a>,
 ) -> Result<LaidTable<'a>, ImageError>
     requires inside { from_of image.old + half_bytes_of image.old ≤ length (D.life disk.old).seen }
-    requires table { table.rows.now.places.at + 8192 * length table.rows.now.places.keys ≤ length (D.life disk.old).seen }
+    requires table { table.rows.now.places.at + page_bytes * length table.rows.now.places.keys ≤ length (D.life disk.old).seen }
     ensures adds { AddsPages D.is_modelled (D.life disk.old) (D.life disk.new) image.old image.new }
     ensures under { (e : List ℕ × Stored) → IsLent e table.entry → OnOk result (IsUnder e) }
     ensures last { IfOk result (λ laid. IsLast image.old image.new table.entry.name.now laid) }
     ensures laid { (e : List ℕ × Stored) → IsLent e table.entry → IsGood (created_entry e) → IsReadable D.is_modelled (D.life disk.old).seen image.old e.1
         → IfOk result (λ laid. LaysTable (D.life disk.new).seen image.old image.new (created_entry e) (place_of laid.place) laid.pages) }
     ensures full { (e : List ℕ × Stored) → IsLent e table.entry → IsReadable D.is_modelled (D.life disk.old).seen image.old e.1
-        → TellsFull result (end_of_half image.old) (next_of image.old + 8192 * pages_of_table (table_in e.1)) }
+        → TellsFull result (end_of_half image.old) (next_of image.old + page_bytes * pages_of_table (table_in e.1)) }
     ensures damaged { (e : List ℕ × Stored) → IsLent e table.entry → IsGood (created_entry e) → IsReadable D.is_modelled (D.life disk.old).seen image.old e.1
         → DamagedWhere ⊥ result }
     ensures cause { CountsImage result (D.life disk.old).faults (D.life disk.new).faults }
@@ -108,7 +109,7 @@ pub(crate) fn write_tables<'a, D: Disk>(
     ensures adds { AddsPages D.is_modelled (D.life disk.old) (D.life disk.new) image.old image.new }
     ensures listed { IfOk result (AreListed image.old image.new tables.entry) }
     ensures written { AreReadable D.is_modelled (D.life disk.old).seen image.old tables.entry → IfOk result (AreWritten (D.life disk.new).seen image.old image.new tables.entry) }
-    ensures told { AreReadable D.is_modelled (D.life disk.old).seen image.old tables.entry → TellsPages result (end_of_half image.old) (next_of image.old + 8192 * pages_of_tables (all_shown tables.entry)) }
+    ensures told { AreReadable D.is_modelled (D.life disk.old).seen image.old tables.entry → TellsPages result (end_of_half image.old) (next_of image.old + page_bytes * pages_of_tables (all_shown tables.entry)) }
     ensures cause { CountsImage result (D.life disk.old).faults (D.life disk.new).faults }
 {
     let mut left = tables;

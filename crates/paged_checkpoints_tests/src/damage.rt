@@ -1,9 +1,9 @@
 //! Checkpoints with damaged pages.
 use crate::changes::Step;
-use crate::held::{Held, PAGE_BYTES};
+use crate::held::Held;
 use crate::stores::{commit, open_held, written};
 use checkpoint_writer::ImageError;
-use drda_disk::{Disk, MemDisk};
+use drda_disk::{Disk, MemDisk, PAGE_BYTES};
 use row_pages::{PageCache, Pager};
 use std::alloc::{AllocError, Global};
 use std::test::Fail;

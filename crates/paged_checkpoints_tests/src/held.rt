@@ -1,6 +1,6 @@
 //! Tables over the pages of a store.
 use checkpoint_writer::ImageError;
-use drda_disk::Disk;
+use drda_disk::{Disk, PAGE_BYTES};
 use half_store::{Active, OpenError, open};
 use paged_checkpoints::{open_checkpoint, write_checkpoint};
 use paged_tables::PagedTables;
@@ -12,9 +12,6 @@ use tables::{Change, Rows};
 
 /// The bytes of a store.
 pub const STORE_BYTES: usize = 2_097_152;
-
-/// The bytes of a page.
-pub const PAGE_BYTES: usize = 8_192;
 
 /// Tables, the disk on which their pages lie, and its active half.
 #[derive(Drop)]

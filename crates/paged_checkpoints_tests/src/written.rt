@@ -3,7 +3,7 @@ use crate::changes::Step;
 use crate::held::Held;
 use crate::stores::{apply, commit, new_store, open_held, plain_of, shows, written};
 use checkpoint_writer::ImageError;
-use half_store::Full;
+use drda_disk::Full;
 use row_pages::{PageCache, Pager};
 use std::alloc::Global;
 use std::test::Fail;

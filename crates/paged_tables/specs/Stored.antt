@@ -3,6 +3,7 @@ use Rattle.std.specs.Prelude.{◌≡◌, ◌⊎◌, ℕ, ◌+◌, ◌*◌, ◌�
 use Rattle.std.specs.Global.{Vec}
 use Rattle.std.specs.List.{AllByRecursion}
 use Rattle.drda_words.specs.Bytes.{AreBytes}
+use Rattle.drda_disk.specs.Layout.{page_bytes}
 use Rattle.key_map.specs.Merging.{InOrder, Rows, merged}
 use Rattle.key_map.specs.Overlay.{changes_of}
 use Rattle.key_map.specs.RowForm.{row_form}
@@ -98,11 +99,11 @@ pub record IsOnPages (file : List ℕ) (t : Stored) : Type 0 where
 
 -- the pages end within so many bytes
 abbrev pub LiesInside : ℕ → Stored → Type 0
-LiesInside size t = t.places.at + 8192 * length t.places.keys ≤ size
+LiesInside size t = t.places.at + page_bytes * length t.places.keys ≤ size
 
 -- the pages end in front of an offset, or begin behind another one
 abbrev pub LiesOutside : ℕ → ℕ → Stored → Type 0
-LiesOutside from end t = (t.places.at + 8192 * length t.places.keys ≤ from) ⊎ (end ≤ t.places.at)
+LiesOutside from end t = (t.places.at + page_bytes * length t.places.keys ≤ from) ⊎ (end ≤ t.places.at)
 
 -- the schema and the pages of a table stay, whatever else becomes of it
 pub record KeepsPages (old new : Stored) : Type 0 where

@@ -2,6 +2,7 @@
 use Rattle.std.specs.Prelude.{◌≡◌, ℕ, ◌+◌, ◌*◌, ◌≤◌, List, length, Ok}
 use Rattle.drda_disk.specs.Region.{end_of}
 use Rattle.drda_disk.specs.declared.region.Region.{Region}
+use Rattle.drda_disk.specs.Layout.{page_bytes}
 use Rattle.half_store.specs.Active.{Store, active_of}
 use Rattle.half_store.specs.Layout.{half_len, offset_of}
 use Rattle.half_store.specs.declared.header.Layout.{Layout}
@@ -16,7 +17,7 @@ use Rattle.recovery.specs.Laws.{held_for}
 
 -- the journal of a store: what is left of its active half behind the header and the pages
 pub record IsJournal (size : ℕ) (store : Store) (region : Region) : Type 0 where
-  pub begins : region.at ≡ offset_of (half_len size) store.half + 8192 * (1 + store.header.pages)
+  pub begins : region.at ≡ offset_of (half_len size) store.half + page_bytes * (1 + store.header.pages)
   pub ends : end_of region ≡ offset_of (half_len size) store.half + half_len size
 
 -- The image is a store of this name. The pages of its active half, of this layout, have the tables of its last checkpoint;

@@ -1,6 +1,7 @@
 -- Filling a page with rows.
 use Rattle.std.specs.Prelude.{◌≡◌, ◌≤◌, ◌+◌, ◌*◌, ℕ, List, [], ◌∷◌, ◌++◌, length, drop, vec_capacity}
 use Rattle.std.specs.Global.{Vec}
+use Rattle.drda_disk.specs.Layout.{page_bytes}
 use Rattle.row_pages.specs.Page.{Fits, Page, rows_bytes}
 use Rattle.row_pages.specs.Reading.{rows_in}
 use Rattle.row_pages.specs.declared.builder.Pushed.{Pushed}
@@ -16,5 +17,5 @@ pub record IsFilled (count : ℕ) (bytes : Vec ℕ) : Type 0 where
   pub rows : drop 3 bytes.items ≡ rows_bytes (rows_in count (drop 3 bytes.items))
   pub counted : length (rows_in count (drop 3 bytes.items)) ≡ count
   pub head : 3 + 2 * count ≤ length bytes.items
-  pub fits : length bytes.items ≤ 8192
-  pub room : 8192 ≤ vec_capacity bytes
+  pub fits : length bytes.items ≤ page_bytes
+  pub room : page_bytes ≤ vec_capacity bytes

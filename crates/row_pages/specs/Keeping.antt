@@ -1,8 +1,9 @@
 -- Pages that are kept in memory.
 use Rattle.std.specs.Prelude.{◌≡◌, ◌≤◌, ◌+◌, ℕ, List, length, drop, true, Option, Some, None, Result, Ok, Err, Contains}
 use Rattle.drda_words.specs.Place.{part}
-use Rattle.drda_disk.specs.declared.through.ReadFault.{ReadFault}
-use Rattle.drda_disk.specs.declared.through.ReadFault.TheVariants as read
+use Rattle.drda_disk.specs.declared.errors.DiskError.{DiskError}
+use Rattle.drda_disk.specs.declared.errors.DiskError.TheVariants as read
+use Rattle.drda_disk.specs.Layout.{page_bytes}
 use Rattle.row_pages.specs.Page.{IsPage, Page, rows_bytes}
 use Rattle.row_pages.specs.Reading.{has_rows, rows_in, row_starts}
 use Rattle.row_pages.specs.declared.page.PageKind.{PageKind}
@@ -40,14 +41,14 @@ Kept = List (ℕ × Page)
 
 -- each page kept is what a disk with these bytes reads at its place
 pub record AreRead (kept : Kept) (file : List ℕ) : Type 0 where
-  pub each : (e : ℕ × Page) → Contains kept e → IsPage e.1 (part file e.0 8192)
+  pub each : (e : ℕ × Page) → Contains kept e → IsPage e.1 (part file e.0 page_bytes)
 
 -- no page kept begins in front of one offset, or behind another
 pub record BeginWithin (first last : ℕ) (kept : Kept) : Type 0 where
   pub each : (e : ℕ × Page) → Contains kept e → (first ≤ e.0) × (e.0 ≤ last)
 
 -- the fault of a read, as one of a page
-abbrev pub fault_of : ReadFault → PageFault
+abbrev pub fault_of : DiskError → PageFault
 fault_of read.NoMemory = NoMemory
 fault_of read.DeviceFailed = DeviceFailed
 

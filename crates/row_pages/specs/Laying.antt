@@ -2,11 +2,12 @@
 use Rattle.std.specs.Prelude.{◌≡◌, ◌≤◌, ◌+◌, ◌^◌, ◌-◌, ℕ, Bool, true, false, List, [], ◌∷◌, ◌++◌, length, min, nat_le, Option, Some, None, if◌then◌else◌}
 use Rattle.std.specs.List.{AllByRecursion}
 use Rattle.std.specs.Global.{Vec}
+use Rattle.drda_disk.specs.Layout.{page_bytes}
 use Rattle.row_pages.specs.Page.{Fits, IsPage, Page, rows_bytes}
 
 -- whether rows stand in one page
 abbrev pub fits : List (List ℕ) → Bool
-fits rows = nat_le (3 + length (rows_bytes rows)) 8192
+fits rows = nat_le (3 + length (rows_bytes rows)) page_bytes
 
 -- a row that fits into a page
 abbrev pub IsShort : List ℕ → Type 0
@@ -77,7 +78,7 @@ last_count n = if nat_le 1 n then 1 else 0
 
 abbrev pub count_behind : ℕ → List (List ℕ) → ℕ
 count_behind n [] = last_count n
-count_behind n (row ∷ rows) = if nat_le (3 + (n + 2 + length row)) 8192 then count_behind (n + 2 + length row) rows else 1 + count_behind (2 + length row) rows
+count_behind n (row ∷ rows) = if nat_le (3 + (n + 2 + length row)) page_bytes then count_behind (n + 2 + length row) rows else 1 + count_behind (2 + length row) rows
 
 -- as a number of 64 bits, which stops at the greatest
 abbrev pub counted : ℕ → ℕ

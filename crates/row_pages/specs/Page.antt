@@ -2,6 +2,7 @@
 -- bytes, and zeros up to the end.
 use Rattle.std.specs.Prelude.{◌≡◌, ◌≤◌, ◌+◌, ◌-◌, ℕ, List, [], ◌∷◌, ◌++◌, length, replicate}
 use Rattle.std.specs.Int.{to_be_bytes, w16}
+use Rattle.drda_disk.specs.Layout.{page_bytes}
 use Rattle.row_pages.specs.declared.page.PageKind.{PageKind}
 use Rattle.row_pages.specs.declared.page.PageKind.TheVariants.{Catalogue, Rows}
 
@@ -24,7 +25,7 @@ rows_bytes (row ∷ rows) = row_bytes row ++ rows_bytes rows
 
 -- rows that stand in one page, behind its three bytes
 abbrev pub Fits : List (List ℕ) → Type 0
-Fits rows = 3 + length (rows_bytes rows) ≤ 8192
+Fits rows = 3 + length (rows_bytes rows) ≤ page_bytes
 
 abbrev pub page_bytes : Page → List ℕ
 page_bytes p = code_of p.kind ∷ (to_be_bytes w16 (length p.rows) ++ (rows_bytes p.rows ++ replicate (8189 - length (rows_bytes p.rows)) 0))

@@ -2,6 +2,7 @@
 use Rattle.std.specs.Prelude.{◌≡◌, ℕ, ◌==◌, ◌&&◌, List, ◌∷◌, length, drop, Option, Some, None, Result, Ok, Err, if◌then◌else◌}
 use Rattle.std.specs.List.{list_all}
 use Rattle.drda_words.specs.Number.{word}
+use Rattle.drda_disk.specs.Layout.{page_bytes}
 use Rattle.row_pages.specs.Page.{IsPage, Page}
 use Rattle.row_pages.specs.Reading.{has_rows, rows_in, behind_rows}
 use Rattle.row_pages.specs.declared.kept.PageFault.{PageFault}
@@ -38,7 +39,7 @@ OnePage = (p q : Page) (bytes : List ℕ) → IsPage p bytes → IsPage q bytes 
 -- what the head says, where the number of bytes is that of a page; none only where they are no page
 pub record HasHead (bytes : List ℕ) (kind : PageKind) (count : ℕ) : Type 0 where
   pub same : page_at bytes ≡ page_behind (Some kind) count (drop 3 bytes)
-  pub size : length bytes ≡ 8192
+  pub size : length bytes ≡ page_bytes
 
 abbrev pub SaysHead : List ℕ → Option (PageKind × ℕ) → Type 0
 SaysHead bytes None = page_at bytes ≡ None

@@ -1,12 +1,14 @@
 //! A page that is being filled.
 
 ghost use Rattle.std.specs.Prelude.{◌≡◌, ◌≤◌, ◌+◌, ◌-◌, ◌++◌, [], IfOk, OnErr, drop, length, replicate, vec_capacity};
+ghost use Rattle.drda_disk.specs.Layout.{page_bytes};
 ghost use Rattle.row_pages.specs.Page.{Fits, IsPage, rows_bytes};
 ghost use Rattle.row_pages.specs.Filling.{Pushes};
 ghost use Rattle.row_pages.specs.Laying.{IsShort, Lays};
 
 use crate::kept::KeptPage;
-use crate::page::{HEADER_BYTES, PAGE_BYTES, PageKind};
+use crate::page::{HEADER_BYTES, PageKind};
+use drda_disk::PAGE_BYTES;
 use std::alloc::{AllocError, Global};
 use std::marker::Model;
 use std::mem;
@@ -120,7 +122,7 @@ impl PageBuilder {
 
     /// How many bytes the page has left. A row takes its own, and two for its length.
     pub fn room(&self) -> usize
-        ensures { 3 + length (rows_bytes self.now.rows) + result ≡ 8192 }
+        ensures { 3 + length (rows_bytes self.now.rows) + result ≡ page_bytes }
     {
         PAGE_BYTES - self.bytes.len()
     }
@@ -140,7 +142,7 @@ impl PageBuilder {
     /// The bytes of the page, 8,192 of them. Takes no memory.
     pub fn finish(self) -> Vec<u8>
         ensures page { IsPage self result.items }
-        ensures bytes { length result.items ≡ 8192 }
+        ensures bytes { length result.items ≡ page_bytes }
     {
         let PageBuilder {
             kind,

@@ -4,14 +4,14 @@ ghost use Rattle.std.specs.Prelude.{◌≡◌, ◌⊎◌, ◌≤◌, ◌<◌, �
 ghost use Rattle.std.specs.Map.{lookup};
 ghost use Rattle.drda_words.specs.Place.{part};
 ghost use Rattle.drda_disk.specs.Disk.{Stays, Torn};
+ghost use Rattle.drda_disk.specs.Layout.{page_bytes};
 ghost use Rattle.row_pages.specs.Page.{IsPage};
 ghost use Rattle.row_pages.specs.Keeping.{AreRead, CountsPageFault, TellsDamage};
 ghost use Rattle.row_pages.specs.declared.kept.PageFault.TheVariants.{NoMemory};
 
 use crate::judged::JudgedPage;
 use crate::kept::{KeptPage, PageFault, read_page};
-use crate::page::PAGE_BYTES;
-use drda_disk::Disk;
+use drda_disk::{Disk, PAGE_BYTES};
 use lru::LruCache;
 use row_values::Schema;
 use std::alloc::{AllocError, Global};
@@ -88,10 +88,10 @@ impl PageCache {
         disk: &mut D,
         at: usize,
     ) -> Result<(), PageFault>
-        requires { at + 8192 ≤ length (D.life disk.old).seen }
+        requires { at + page_bytes ≤ length (D.life disk.old).seen }
         ensures kept { IsTrue D.is_modelled → AreRead self.old (D.life disk.old).seen → AreRead self.new (D.life disk.new).seen }
         ensures there { OnOk result (IsSome (lookup (nat_eq at) self.new)) }
-        ensures damaged { IsTrue D.is_modelled → TellsDamage (part (D.life disk.old).seen at 8192) result }
+        ensures damaged { IsTrue D.is_modelled → TellsDamage (part (D.life disk.old).seen at page_bytes) result }
         ensures stays { Stays (D.life disk.old) (D.life disk.new) }
         ensures faults { CountsPageFault result (D.life disk.old).faults (D.life disk.new).faults }
     {
@@ -112,7 +112,7 @@ impl PageCache {
 
     // Keeps a page, in place of the one that was asked for longest ago where there are too many.
     fn keep(&mut self, at: usize, page: KeptPage) -> Result<(), PageFault>
-        ensures kept { (file : List ℕ) → AreRead self.old file → IsPage page (part file at 8192) → AreRead self.new file }
+        ensures kept { (file : List ℕ) → AreRead self.old file → IsPage page (part file at page_bytes) → AreRead self.new file }
         ensures there { OnOk result (IsSome (lookup (nat_eq at) self.new)) }
         ensures fault { IfErr result (λ fault. fault ≡ NoMemory) }
     {
@@ -137,7 +137,7 @@ impl PageCache {
     /// The page that is kept at an offset.
     pub(crate) fn kept(&self, at: usize) -> &JudgedPage
         requires { IsSome (lookup (nat_eq at) self.now) }
-        ensures { (file : List ℕ) → AreRead self.now file → IsPage result.now (part file at 8192) }
+        ensures { (file : List ℕ) → AreRead self.now file → IsPage result.now (part file at page_bytes) }
     {
         match self.pages.peek(&at) {
             Some(page) => page,
@@ -158,7 +158,7 @@ fn judge_at(pages: &mut LruCache<usize, JudgedPage>, at: usize, schema: &Arc<Sch
 
 // Whether so many bytes from an offset on lie in front of all pages that begin within two others, or behind them.
 fn lies_apart(first: usize, last: usize, at: usize, len: usize) -> bool
-    ensures { IsTrue result → (at + len ≤ first) ⊎ (last + 8192 ≤ at) }
+    ensures { IsTrue result → (at + len ≤ first) ⊎ (last + page_bytes ≤ at) }
 {
     if at >= PAGE_BYTES && last <= at - PAGE_BYTES {
         return true;

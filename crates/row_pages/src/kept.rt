@@ -4,15 +4,16 @@ ghost use Rattle.std.specs.Prelude.{◌≡◌, ◌≤◌, ◌<◌, ◌+◌, IsTr
 ghost use Rattle.std.specs.List.{slice_get};
 ghost use Rattle.drda_words.specs.Place.{part};
 ghost use Rattle.drda_disk.specs.Disk.{Stays};
+ghost use Rattle.drda_disk.specs.Layout.{page_bytes};
 ghost use Rattle.row_pages.specs.Filling.{IsFilled};
 ghost use Rattle.row_pages.specs.Page.{IsPage};
 ghost use Rattle.row_pages.specs.Parsing.{ParsesKept};
 ghost use Rattle.row_pages.specs.Reading.{rows_in};
 ghost use Rattle.row_pages.specs.Keeping.{CountsPageFault, TellsDamage};
 
-use crate::page::{HEADER_BYTES, PAGE_BYTES, PageKind, PageRef, head_of, is_zero};
+use crate::page::{HEADER_BYTES, PageKind, PageRef, head_of, is_zero};
 use crate::rows::{first_row, from_place, place_rows};
-use drda_disk::{Disk, ReadFault, read_bytes};
+use drda_disk::{Disk, DiskError, PAGE_BYTES, read_bytes};
 use std::alloc::Global;
 use std::marker::Model;
 use thiserror::Error;
@@ -28,16 +29,16 @@ pub enum PageFault {
     Damaged,
 }
 
-impl From<ReadFault> for PageFault {
+impl From<DiskError> for PageFault {
     ghost use Rattle.std.specs.Prelude.{◌≡◌};
     ghost use Rattle.row_pages.specs.Keeping.{fault_of};
 
     ghost from_gives = { λ e f. f ≡ fault_of e };
 
-    fn from(fault: ReadFault) -> Self {
+    fn from(fault: DiskError) -> Self {
         match fault {
-            ReadFault::NoMemory => PageFault::NoMemory,
-            ReadFault::DeviceFailed => PageFault::DeviceFailed,
+            DiskError::NoMemory => PageFault::NoMemory,
+            DiskError::DeviceFailed => PageFault::DeviceFailed,
         }
     }
 }
@@ -139,9 +140,9 @@ impl KeptPage {
 /// cache keeps it. The range lies inside the disk. `Damaged` is told only where the bytes there are no
 /// page.
 pub fn read_page<D: Disk>(alloc: Global, disk: &mut D, at: usize) -> Result<KeptPage, PageFault>
-    requires { at + 8192 ≤ length (D.life disk.old).seen }
-    ensures page { IfOk result (λ page. IsTrue D.is_modelled → IsPage page (part (D.life disk.old).seen at 8192)) }
-    ensures damaged { IsTrue D.is_modelled → TellsDamage (part (D.life disk.old).seen at 8192) result }
+    requires { at + page_bytes ≤ length (D.life disk.old).seen }
+    ensures page { IfOk result (λ page. IsTrue D.is_modelled → IsPage page (part (D.life disk.old).seen at page_bytes)) }
+    ensures damaged { IsTrue D.is_modelled → TellsDamage (part (D.life disk.old).seen at page_bytes) result }
     ensures stays { Stays (D.life disk.old) (D.life disk.new) }
     ensures faults { CountsPageFault result (D.life disk.old).faults (D.life disk.new).faults }
 {

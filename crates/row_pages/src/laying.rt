@@ -3,7 +3,8 @@
 ghost use Rattle.std.specs.Prelude.{◌≡◌, ℕ, List, [], ◌∷◌, length};
 ghost use Rattle.row_pages.specs.Laying.{IsShort, counted, laid, pages_with};
 
-use crate::page::{HEADER_BYTES, PAGE_BYTES};
+use crate::page::HEADER_BYTES;
+use drda_disk::PAGE_BYTES;
 use std::marker::Model;
 
 /// How many pages rows take when they are laid one behind another, so that a page ends only where

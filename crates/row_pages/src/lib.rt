@@ -19,6 +19,6 @@ pub use judging::is_behind;
 pub use kept::{KeptPage, PageFault, read_page};
 pub use laws::{one_laying, one_page};
 pub use laying::PageCount;
-pub use page::{Damaged, PAGE_BYTES, PageKind, PageRef};
+pub use page::{Damaged, PageKind, PageRef};
 pub use pager::Pager;
 pub use rows::RowIter;

@@ -9,10 +9,8 @@ ghost use Rattle.row_pages.specs.Parsing.{Parses, SaysHead, kind_at, page_at};
 ghost use Rattle.row_pages.specs.Keeping.{HoldsRows, Judges, page_with};
 
 use crate::rows::{RowIter, behind_rows};
+use drda_disk::PAGE_BYTES;
 use std::marker::Model;
-
-/// The bytes of a page.
-pub const PAGE_BYTES: usize = 8_192;
 
 /// The bytes in front of a page's rows.
 pub(crate) const HEADER_BYTES: usize = 3;

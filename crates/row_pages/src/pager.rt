@@ -5,6 +5,7 @@ ghost use Rattle.std.specs.Borrow.{sem};
 ghost use Rattle.std.specs.Io.BufRead.{Rests};
 ghost use Rattle.drda_words.specs.Place.{part};
 ghost use Rattle.drda_disk.specs.Disk.{Stays};
+ghost use Rattle.drda_disk.specs.Layout.{page_bytes};
 ghost use Rattle.row_pages.specs.Page.{IsPage};
 ghost use Rattle.row_pages.specs.Keeping.{CountsPageFault, TellsDamage};
 
@@ -66,10 +67,10 @@ impl<D: Disk> Pager<D> {
     /// The page at an offset, as the disk reads now; it is read where it is not kept. The range lies inside
     /// the disk. `Damaged` is told only where the bytes there are no page.
     pub fn page<'s>(&'s mut self, alloc: Global, at: usize) -> Result<&'s KeptPage, PageFault>
-        requires { at + 8192 ≤ length (D.life self.old).seen }
+        requires { at + page_bytes ≤ length (D.life self.old).seen }
         ensures* after { sem 𝓛 (Rests (the_row D.row D.Disk) self.entry (λ now. Stays (D.life self.old) (D.life now) × CountsPageFault result (D.life self.old).faults (D.life now).faults)) }
-        ensures page { IsTrue D.is_modelled → IfOk result (λ page. IsPage page.now (part (D.life self.old).seen at 8192)) }
-        ensures damaged { IsTrue D.is_modelled → TellsDamage (part (D.life self.old).seen at 8192) result }
+        ensures page { IsTrue D.is_modelled → IfOk result (λ page. IsPage page.now (part (D.life self.old).seen at page_bytes)) }
+        ensures damaged { IsTrue D.is_modelled → TellsDamage (part (D.life self.old).seen at page_bytes) result }
     {
         match self.cache.fetch(alloc, &mut self.disk, at) {
             Ok(()) => Ok(self.cache.kept(at).page()),
@@ -85,10 +86,10 @@ impl<D: Disk> Pager<D> {
         at: usize,
         by: Option<&Arc<Schema, Global>>,
     ) -> Result<&'s JudgedPage, PageFault>
-        requires { at + 8192 ≤ length (D.life self.old).seen }
+        requires { at + page_bytes ≤ length (D.life self.old).seen }
         ensures* after { sem 𝓛 (Rests (the_row D.row D.Disk) self.entry (λ now. Stays (D.life self.old) (D.life now) × CountsPageFault result (D.life self.old).faults (D.life now).faults)) }
-        ensures page { IsTrue D.is_modelled → IfOk result (λ page. IsPage page.now (part (D.life self.old).seen at 8192)) }
-        ensures damaged { IsTrue D.is_modelled → TellsDamage (part (D.life self.old).seen at 8192) result }
+        ensures page { IsTrue D.is_modelled → IfOk result (λ page. IsPage page.now (part (D.life self.old).seen at page_bytes)) }
+        ensures damaged { IsTrue D.is_modelled → TellsDamage (part (D.life self.old).seen at page_bytes) result }
     {
         match self.cache.fetch(alloc, &mut self.disk, at) {
             Ok(()) => {

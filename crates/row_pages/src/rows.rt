@@ -2,6 +2,7 @@
 
 ghost use Rattle.std.specs.Prelude.{◌≡◌, ◌+◌, ◌<◌, ◌≤◌, ◌++◌, ◌∷◌, [], true, drop, length, option_map, vec_capacity};
 ghost use Rattle.std.specs.Iterator.{at_most};
+ghost use Rattle.drda_disk.specs.Layout.{page_bytes};
 ghost use Rattle.row_pages.specs.Reading.{has_rows, row_at, rows_in};
 ghost use Rattle.row_pages.specs.Walk.{EndsAt, GivesRow, Places, StandsBehind};
 
@@ -116,7 +117,7 @@ fn put_start(starts: &mut Vec<u16>, at: usize)
 pub(crate) fn place_rows(starts: &mut Vec<u16>, count: usize, bytes: &[u8]) -> Option<usize>
     requires none { starts.old.items ≡ [] }
     requires room { count ≤ vec_capacity starts.old }
-    requires size { length bytes.now ≡ 8192 }
+    requires size { length bytes.now ≡ page_bytes }
     ensures { Places count bytes.now starts.new.items result }
 {
     let mut at = HEADER_BYTES;

@@ -1,6 +1,7 @@
 -- A checkpoint: the tables that the pages of a half have. The records of the half's journal follow it.
 use Rattle.std.specs.Prelude.{◌≡◌, ℕ, ◌+◌, ◌*◌, true, List, [], map}
 use Rattle.drda_words.specs.Place.{part}
+use Rattle.drda_disk.specs.Layout.{page_bytes}
 use Rattle.row_values.specs.Schema.{Schema}
 use Rattle.row_values.specs.Key.{row_key}
 use Rattle.key_map.specs.RowForm.{row_form}
@@ -13,7 +14,7 @@ use Rattle.store_check.specs.Half.{BreaksHalf, HalfPages, IsWholeHalf, KeysBySch
 
 -- the pages of a store's active half, which lie behind the half's header, in an image of this size
 abbrev pub half_pages : ℕ → Opened → HalfPages
-half_pages size store = record { at = offset_of (half_len size) store.half + 8192; count = store.header.pages; first_catalogue = store.header.first_catalogue; catalogue_pages = store.header.catalogue_pages }
+half_pages size store = record { at = offset_of (half_len size) store.half + page_bytes; count = store.header.pages; first_catalogue = store.header.first_catalogue; catalogue_pages = store.header.catalogue_pages }
 
 -- rows lie on pages in the order of the sort forms of their keys
 abbrev pub forms : KeysBySchema
@@ -54,7 +55,7 @@ CheckpointsAreStores = (image : List ℕ) (half : HalfPages) (store : Store) →
 abbrev pub CheckpointsAreFramed : Type 0
 CheckpointsAreFramed =
     (image other : List ℕ) (half : HalfPages) (store : Store)
-    → part other half.at (8192 * half.count) ≡ part image half.at (8192 * half.count) → HasCheckpoint image half store → HasCheckpoint other half store
+    → part other half.at (page_bytes * half.count) ≡ part image half.at (page_bytes * half.count) → HasCheckpoint image half store → HasCheckpoint other half store
 
 -- no pages have no tables
 abbrev pub NoPagesHaveNoTables : Type 0

@@ -3,6 +3,7 @@ use Rattle.std.specs.Prelude.{◌≡◌, ◌≢◌, ◌⊎◌, ◌<◌, ◌≤�
 use Rattle.std.specs.List.{AllByRecursion}
 use Rattle.std.specs.Global.{Vec}
 use Rattle.drda_words.specs.Place.{part}
+use Rattle.drda_disk.specs.Layout.{page_bytes}
 use Rattle.row_values.specs.Schema.{Schema}
 use Rattle.row_pages.specs.Laying.{rows_over}
 use Rattle.row_pages.specs.declared.page.PageKind.{PageKind}
@@ -28,11 +29,11 @@ pub record HalfPages : Type 0 where
 
 -- they lie in front of the half's journal
 abbrev pub pages_of : Active → HalfPages
-pages_of a = record { at = a.region.at - 8192 * a.pages; count = a.pages; first_catalogue = a.first_catalogue; catalogue_pages = a.catalogue_pages }
+pages_of a = record { at = a.region.at - page_bytes * a.pages; count = a.pages; first_catalogue = a.first_catalogue; catalogue_pages = a.catalogue_pages }
 
 -- the offset of the page with this number
 abbrev pub page_at : ℕ → ℕ → ℕ
-page_at at n = at + 8192 * n
+page_at at n = at + page_bytes * n
 
 -- the number of the page behind the catalogue's
 abbrev pub catalogue_end : HalfPages → ℕ
@@ -83,7 +84,7 @@ kind_of half n = if nat_lt n half.first_catalogue then kind.Rows else kind.Catal
 -- the page with this number has rows and is of its place's kind, and it does not lie behind the catalogue
 pub record HasForm (file : List ℕ) (half : HalfPages) (n : ℕ) : Type 0 where
   pub within : n < catalogue_end half
-  pub is : IsFormed (kind_of half n) (part file (page_at half.at n) 8192)
+  pub is : IsFormed (kind_of half n) (part file (page_at half.at n) page_bytes)
 
 -- each of so many first pages has its form
 abbrev pub HaveForm : List ℕ → HalfPages → ℕ → Type 0
@@ -158,7 +159,7 @@ placed key_of at t = (t.entry, record { at = page_at at t.entry.first_page; keys
 
 -- a table's pages end here at the latest
 abbrev pub LiesBelow : ℕ → CheckedTable → Type 0
-LiesBelow end checked = checked.pages.pages.at + 8192 * length checked.pages.pages.keys ≤ end
+LiesBelow end checked = checked.pages.pages.at + page_bytes * length checked.pages.pages.keys ≤ end
 
 -- they begin here at the earliest
 abbrev pub LiesBehind : ℕ → CheckedTable → Type 0

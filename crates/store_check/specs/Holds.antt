@@ -1,5 +1,6 @@
 -- What an image holds: tables in the pages of its active half, and the records of its journal.
 use Rattle.std.specs.Prelude.{◌≡◌, ◌≤◌, ℕ, ◌+◌, ◌*◌, List, length, Ok}
+use Rattle.drda_disk.specs.Layout.{page_bytes}
 use Rattle.half_store.specs.Active.{Store, active_of}
 use Rattle.half_store.specs.Layout.{half_len, offset_of}
 use Rattle.unit_journal.specs.Record.{Entry, laid}
@@ -9,7 +10,7 @@ use Rattle.store_check.specs.Checkpoint.{HasCheckpoint, half_pages}
 
 -- the offset of its journal, and the one behind the half
 abbrev pub journal_at : ℕ → Store → ℕ
-journal_at size s = offset_of (half_len size) s.half + 8192 * (1 + s.header.pages)
+journal_at size s = offset_of (half_len size) s.half + page_bytes * (1 + s.header.pages)
 
 abbrev pub half_end : ℕ → Store → ℕ
 half_end size s = offset_of (half_len size) s.half + half_len size

@@ -1,6 +1,7 @@
 -- Tables that are laid into the pages of a half, one behind another.
 use Rattle.std.specs.Prelude.{◌≡◌, ℕ, ◌+◌, ◌-◌, ◌&&◌, true, List, [], ◌∷◌}
 use Rattle.std.specs.Map.{values_of}
+use Rattle.drda_disk.specs.Layout.{page_bytes}
 use Rattle.key_map.specs.RowForm.{row_form}
 use Rattle.row_values.specs.Schema.{is_name}
 use Rattle.row_pages.specs.Laying.{laid}
@@ -33,4 +34,4 @@ laid_from at next (e ∷ es) = laid_at at next e ∷ laid_from at (next + pages_
 
 -- the pages of an image, of which those from this one on are its catalogue's
 abbrev pub pages_with : ImageWriter → ℕ → HalfPages
-pages_with w first = record { at = from_of w + 8192; count = pages_of w; first_catalogue = first; catalogue_pages = pages_of w - first }
+pages_with w first = record { at = from_of w + page_bytes; count = pages_of w; first_catalogue = first; catalogue_pages = pages_of w - first }

@@ -4,6 +4,7 @@ use Rattle.std.specs.Prelude.{◌≡◌, ◌+◌, ◌==◌, ◌&&◌, ℕ, Bool,
 use Rattle.std.specs.Global.{Vec}
 use Rattle.std.specs.Ordering.{match_ordering}
 use Rattle.drda_words.specs.Place.{part}
+use Rattle.drda_disk.specs.Layout.{page_bytes}
 use Rattle.key_map.specs.Slots.{by_bytes}
 use Rattle.checkpoint_writer.specs.Catalogue.{Entry, IsEntryPage, entry_of}
 use Rattle.checkpoint_writer.specs.declared.entry.StoredTable.{StoredTable}
@@ -24,7 +25,7 @@ pub record IsTablesPage (bytes : List ℕ) (entries : List Entry) : Type 0 where
 -- the pages from an offset on have these entries, page by page
 abbrev pub EntriesAt : List ℕ → ℕ → List (List Entry) → Type 0
 EntriesAt file at [] = Unit {0}
-EntriesAt file at (page ∷ pages) = IsTablesPage (part file at 8192) page × EntriesAt file (at + 8192) pages
+EntriesAt file at (page ∷ pages) = IsTablesPage (part file at page_bytes) page × EntriesAt file (at + page_bytes) pages
 
 abbrev pub entries_over : List (List Entry) → List Entry
 entries_over [] = []

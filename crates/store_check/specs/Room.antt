@@ -1,6 +1,7 @@
 -- The room that a checkpoint takes in a half.
 use Rattle.std.specs.Prelude.{◌≡◌, ◌≤◌, ◌<◌, ℕ, ◌+◌, ◌*◌, ◌==◌, List, [], ◌∷◌, length, Result, Ok, Err, if◌then◌else◌}
 use Rattle.std.specs.Map.{values_of}
+use Rattle.drda_disk.specs.Layout.{page_bytes}
 use Rattle.tables.specs.Tables.{Store, Table}
 use Rattle.row_pages.specs.Laying.{counted, laid}
 use Rattle.unit_journal.specs.Record.{laid as laid_records}
@@ -32,7 +33,7 @@ pages_of_catalogue tables = length (laid (rows_of (entries_from 0 tables)))
 -- the bytes of a half with these tables, these records and so many bytes held back: the page of its header, the pages of
 -- the tables and of their catalogue, the records, and a gate
 abbrev pub need_of : Store → List JournalEntry → ℕ → ℕ
-need_of tables es held = 8192 * (1 + pages_of_tables tables + pages_of_catalogue tables) + (length (laid_records es) + held + 1)
+need_of tables es held = page_bytes * (1 + pages_of_tables tables + pages_of_catalogue tables) + (length (laid_records es) + held + 1)
 
 -- All of it fits where it was written. That there is no room is told only where it does not fit; what is told to be
 -- lacking is no more than what lacks.

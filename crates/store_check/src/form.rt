@@ -2,6 +2,7 @@
 ghost use Rattle.std.specs.Prelude.{◌≡◌, ◌+◌, ◌*◌, ◌<◌, ◌≤◌, ◌^◌, true, false, IsTrue, Err, length};
 ghost use Rattle.drda_words.specs.Place.{part};
 ghost use Rattle.drda_disk.specs.Disk.{Stays};
+ghost use Rattle.drda_disk.specs.Layout.{page_bytes};
 ghost use Rattle.row_pages.specs.Laying.{HasSome};
 ghost use Rattle.store_check.specs.Errors.{CountsCheck};
 ghost use Rattle.store_check.specs.Formed.{IsFormed, TellsWhether};
@@ -10,9 +11,9 @@ ghost use Rattle.store_check.specs.Halving.{ChecksForm, TellsFirst, first_of};
 
 use crate::CheckError;
 use crate::half::pages_at;
-use drda_disk::Disk;
+use drda_disk::{Disk, PAGE_BYTES};
 use half_store::Active;
-use row_pages::{KeptPage, PAGE_BYTES, PageFault, PageKind, Pager, one_page};
+use row_pages::{KeptPage, PageFault, PageKind, Pager, one_page};
 use std::alloc::Global;
 
 /// The kind of the page with a number.
@@ -28,7 +29,7 @@ fn kind_of(active: &Active, page: usize) -> PageKind
 
 /// The offset of the page with a number.
 fn place_of(active: &Active, page: usize) -> usize
-    requires pages { 8192 * active.now.pages ≤ active.now.region.at }
+    requires pages { page_bytes * active.now.pages ≤ active.now.region.at }
     requires small { active.now.region.at ≤ 2 ^ 40 }
     requires page { page < active.now.pages }
     ensures { result ≡ page_at (pages_of active.now).at page }
@@ -54,8 +55,8 @@ fn is_formed<D: Disk>(
     at: usize,
     kind: PageKind,
 ) -> Result<bool, CheckError>
-    requires { at + 8192 ≤ length (D.life pager.old).seen }
-    ensures told { IsTrue D.is_modelled → TellsWhether (IsFormed kind (part (D.life pager.old).seen at 8192)) result }
+    requires { at + page_bytes ≤ length (D.life pager.old).seen }
+    ensures told { IsTrue D.is_modelled → TellsWhether (IsFormed kind (part (D.life pager.old).seen at page_bytes)) result }
     ensures stays { Stays (D.life pager.old) (D.life pager.new) }
     ensures cause { CountsCheck result (D.life pager.old).faults (D.life pager.new).faults }
 {
@@ -76,7 +77,7 @@ fn has_form<D: Disk>(
     active: &Active,
     page: usize,
 ) -> Result<bool, CheckError>
-    requires pages { 8192 * active.now.pages ≤ active.now.region.at }
+    requires pages { page_bytes * active.now.pages ≤ active.now.region.at }
     requires small { active.now.region.at ≤ 2 ^ 40 }
     requires inside { active.now.region.at ≤ length (D.life pager.old).seen }
     requires page { page < active.now.pages }
@@ -98,7 +99,7 @@ fn first_without_form<D: Disk>(
     pager: &mut Pager<D>,
     active: &Active,
 ) -> Result<Option<usize>, CheckError>
-    requires pages { 8192 * active.now.pages ≤ active.now.region.at }
+    requires pages { page_bytes * active.now.pages ≤ active.now.region.at }
     requires small { active.now.region.at ≤ 2 ^ 40 }
     requires inside { active.now.region.at ≤ length (D.life pager.old).seen }
     ensures told { IsTrue D.is_modelled → ChecksForm (D.life pager.old).seen (pages_of active.now) result }
@@ -131,7 +132,7 @@ pub(crate) fn first_damage<D: Disk>(
     active: &Active,
     found: usize,
 ) -> CheckError
-    requires pages { 8192 * active.now.pages ≤ active.now.region.at }
+    requires pages { page_bytes * active.now.pages ≤ active.now.region.at }
     requires small { active.now.region.at ≤ 2 ^ 40 }
     requires inside { active.now.region.at ≤ length (D.life pager.old).seen }
     ensures told { IsTrue D.is_modelled → TellsFirst (D.life pager.old).seen (pages_of active.now) found result }

@@ -2,6 +2,7 @@
 ghost use Rattle.std.specs.Prelude.{◌≡◌, ◌+◌, ◌*◌, ◌^◌, ◌≤◌, ◌++◌, ◌∷◌, [], ℕ, List, true, IsTrue, IfErr, OnOk, IfOk, length, map};
 ghost use Rattle.std.specs.List.{AllByRecursion};
 ghost use Rattle.drda_disk.specs.Disk.{Stays};
+ghost use Rattle.drda_disk.specs.Layout.{page_bytes};
 ghost use Rattle.row_pages.specs.Laying.{rows_over};
 ghost use Rattle.checkpoint_writer.specs.Catalogue.{entry_of};
 ghost use Rattle.store_check.specs.Errors.{CountsCheck};
@@ -15,9 +16,9 @@ use crate::form::first_damage;
 use crate::keys::KeysOf;
 use crate::{CheckError, KeysBySchema, check_catalogue, check_table};
 use checkpoint_writer::StoredTable;
-use drda_disk::Disk;
+use drda_disk::{Disk, PAGE_BYTES};
 use half_store::Active;
-use row_pages::{PAGE_BYTES, Pager};
+use row_pages::Pager;
 use std::alloc::Global;
 use table_map::NotedPages;
 
@@ -31,7 +32,7 @@ pub struct CheckedTable {
 
 /// The offset of a half's first page.
 pub(crate) fn pages_at(active: &Active) -> usize
-    requires { 8192 * active.now.pages ≤ active.now.region.at }
+    requires { page_bytes * active.now.pages ≤ active.now.region.at }
     ensures { result ≡ (pages_of active.now).at }
 {
     active.region.at - PAGE_BYTES * active.pages as usize
@@ -43,7 +44,7 @@ fn listed_tables<D: Disk>(
     pager: &mut Pager<D>,
     active: &Active,
 ) -> Result<Vec<StoredTable>, CheckError>
-    requires pages { 8192 * active.now.pages ≤ active.now.region.at }
+    requires pages { page_bytes * active.now.pages ≤ active.now.region.at }
     requires small { active.now.region.at ≤ 2 ^ 40 }
     requires inside { active.now.region.at ≤ length (D.life pager.old).seen }
     ensures told { IsTrue D.is_modelled → ListsHalf (D.life pager.old).seen (pages_of active.now) result }
@@ -71,8 +72,8 @@ fn check_stored<K: KeysBySchema, D: Disk>(
     at: usize,
     table: &StoredTable,
 ) -> Result<NotedPages, CheckError>
-    requires small { at + 8192 * (table.now.first_page + table.now.pages) ≤ 2 ^ 40 }
-    requires inside { at + 8192 * (table.now.first_page + table.now.pages) ≤ length (D.life pager.old).seen }
+    requires small { at + page_bytes * (table.now.first_page + table.now.pages) ≤ 2 ^ 40 }
+    requires inside { at + page_bytes * (table.now.first_page + table.now.pages) ≤ length (D.life pager.old).seen }
     ensures at { IfOk result (λ pages. pages.pages.at ≡ page_at at table.now.first_page) }
     ensures count { IfOk result (λ pages. length pages.pages.keys ≡ table.now.pages) }
     ensures told { IsTrue D.is_modelled → ChecksTable table.now.schema (K.key_of keys.now table.now.schema) (D.life pager.old).seen (page_at at table.now.first_page) table.now.pages (places_in result) }
@@ -115,8 +116,8 @@ fn check_rows<K: KeysBySchema, D: Disk>(
     tables: Vec<StoredTable>,
 ) -> Result<Vec<CheckedTable>, CheckError>
     requires listed { are_listed first (map entry_of tables.items) ≡ true }
-    requires small { at + 8192 * first ≤ 2 ^ 40 }
-    requires inside { at + 8192 * first ≤ length (D.life pager.old).seen }
+    requires small { at + page_bytes * first ≤ 2 ^ 40 }
+    requires inside { at + page_bytes * first ≤ length (D.life pager.old).seen }
     ensures within { IfOk result (λ checked. LieWithin at (page_at at first) checked.items) }
     ensures good { IfOk result (λ checked. AllByRecursion (NotesTable (K.key_of keys.now)) checked.items) }
     ensures same { IfOk result (λ checked. map entry_in checked.items ≡ map entry_of tables.items) }
@@ -148,7 +149,7 @@ fn check_meaning<K: KeysBySchema, D: Disk>(
     pager: &mut Pager<D>,
     active: &Active,
 ) -> Result<Vec<CheckedTable>, CheckError>
-    requires pages { 8192 * active.now.pages ≤ active.now.region.at }
+    requires pages { page_bytes * active.now.pages ≤ active.now.region.at }
     requires small { active.now.region.at ≤ 2 ^ 40 }
     requires inside { active.now.region.at ≤ length (D.life pager.old).seen }
     ensures within { IfOk result (λ checked. LieWithin (pages_of active.now).at active.now.region.at checked.items) }
@@ -181,7 +182,7 @@ pub fn check_half<K: KeysBySchema, D: Disk>(
     pager: &mut Pager<D>,
     active: &Active,
 ) -> Result<Vec<CheckedTable>, CheckError>
-    requires pages { 8192 * active.now.pages ≤ active.now.region.at }
+    requires pages { page_bytes * active.now.pages ≤ active.now.region.at }
     requires small { active.now.region.at ≤ 2 ^ 40 }
     requires inside { active.now.region.at ≤ length (D.life pager.old).seen }
     ensures within { IfOk result (λ checked. LieWithin (pages_of active.now).at active.now.region.at checked.items) }

@@ -2,6 +2,7 @@
 ghost use Rattle.std.specs.Prelude.{◌≡◌, ◌+◌, ◌*◌, ◌^◌, ◌<◌, ◌≤◌, ◌++◌, ℕ, List, true, IsTrue, OnOk, IfOk, IfErr, length, map};
 ghost use Rattle.drda_words.specs.Place.{part};
 ghost use Rattle.drda_disk.specs.Disk.{Stays};
+ghost use Rattle.drda_disk.specs.Layout.{page_bytes};
 ghost use Rattle.checkpoint_writer.specs.Catalogue.{entry_of};
 ghost use Rattle.store_check.specs.Errors.{CountsCheck, catalogue_error};
 ghost use Rattle.store_check.specs.Listed.{ChecksCatalogue, are_listed, first_page_of, is_before, lie_from, names_rise};
@@ -10,8 +11,8 @@ ghost use Rattle.store_check.specs.declared.errors.CheckError.TheVariants.{NoMem
 
 use crate::CheckError;
 use checkpoint_writer::{CatalogueError, StoredTable, read_catalogue};
-use drda_disk::Disk;
-use row_pages::{PAGE_BYTES, Pager, one_page};
+use drda_disk::{Disk, PAGE_BYTES};
+use row_pages::{Pager, one_page};
 use std::alloc::Global;
 use std::cmp::Ordering;
 
@@ -111,10 +112,10 @@ fn add_page<D: Disk>(
     last: usize,
     tables: &mut Vec<StoredTable>,
 ) -> Result<(), CheckError>
-    requires small { at + 8192 ≤ 2 ^ 40 }
+    requires small { at + page_bytes ≤ 2 ^ 40 }
     requires last { last < 2 ^ 40 }
-    requires inside { at + 8192 ≤ length (D.life pager.old).seen }
-    ensures told { IsTrue D.is_modelled → JudgesEntries (part (D.life pager.old).seen at 8192) at last tables.old.items result tables.new.items }
+    requires inside { at + page_bytes ≤ length (D.life pager.old).seen }
+    ensures told { IsTrue D.is_modelled → JudgesEntries (part (D.life pager.old).seen at page_bytes) at last tables.old.items result tables.new.items }
     ensures listed { OnOk result (are_listed last (map entry_of tables.new.items) ≡ true) }
     ensures stays { Stays (D.life pager.old) (D.life pager.new) }
     ensures cause { CountsCheck result (D.life pager.old).faults (D.life pager.new).faults }
@@ -150,9 +151,9 @@ pub fn check_catalogue<D: Disk>(
     count: usize,
     last: usize,
 ) -> Result<Vec<StoredTable>, CheckError>
-    requires small { at + 8192 * count ≤ 2 ^ 40 }
+    requires small { at + page_bytes * count ≤ 2 ^ 40 }
     requires last { last < 2 ^ 40 }
-    requires inside { at + 8192 * count ≤ length (D.life pager.old).seen }
+    requires inside { at + page_bytes * count ≤ length (D.life pager.old).seen }
     ensures told { IsTrue D.is_modelled → ChecksCatalogue (D.life pager.old).seen at count last result }
     ensures listed { IfOk result (λ tables. are_listed last (map entry_of tables.items) ≡ true) }
     ensures stays { Stays (D.life pager.old) (D.life pager.new) }

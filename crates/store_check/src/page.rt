@@ -4,6 +4,7 @@ ghost use Rattle.std.specs.List.{AllByRecursion};
 ghost use Rattle.drda_words.specs.Bytes.{AreBytes};
 ghost use Rattle.drda_words.specs.Place.{part};
 ghost use Rattle.drda_disk.specs.Disk.{Stays};
+ghost use Rattle.drda_disk.specs.Layout.{page_bytes};
 ghost use Rattle.row_pages.specs.Page.{IsPage};
 ghost use Rattle.store_check.specs.Errors.{CountsCheck};
 ghost use Rattle.table_map.specs.Keyed.{copied};
@@ -60,9 +61,9 @@ pub(crate) fn check_page<K: RowKeys, D: Disk>(
     last: &mut Option<Vec<u8>>,
     noted: &mut NotedRows,
 ) -> Result<Vec<u8>, CheckError>
-    requires { at + 8192 ≤ length (D.life pager.old).seen }
-    ensures judged { IsTrue D.is_modelled → JudgesBytes schema.now (K.key_of keys.now) at (part (D.life pager.old).seen at 8192) last.old result last.new }
-    ensures noted { (rows : List (List ℕ)) → IsTrue D.is_modelled → IsPage (record { kind = PageKind.Rows; rows = rows }) (part (D.life pager.old).seen at 8192)
+    requires { at + page_bytes ≤ length (D.life pager.old).seen }
+    ensures judged { IsTrue D.is_modelled → JudgesBytes schema.now (K.key_of keys.now) at (part (D.life pager.old).seen at page_bytes) last.old result last.new }
+    ensures noted { (rows : List (List ℕ)) → IsTrue D.is_modelled → IsPage (record { kind = PageKind.Rows; rows = rows }) (part (D.life pager.old).seen at page_bytes)
         → OnOk result (noted.new.listed.value ≡ noted.old.listed.value ++ rows) }
     ensures goes { OnOk result (NotesRows schema.now (K.key_of keys.now) (copied last.old) (copied last.new) noted.old.listed.value noted.new.listed.value) }
     ensures stays { Stays (D.life pager.old) (D.life pager.new) }

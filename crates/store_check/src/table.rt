@@ -1,6 +1,7 @@
 //! All pages of a table.
 ghost use Rattle.std.specs.Prelude.{◌≡◌, ◌+◌, ◌*◌, ◌^◌, ◌≤◌, ◌++◌, ◌∷◌, [], ℕ, List, IsTrue, IfErr, IfOk, OnOk, length};
 ghost use Rattle.drda_disk.specs.Disk.{Stays};
+ghost use Rattle.drda_disk.specs.Layout.{page_bytes};
 ghost use Rattle.row_pages.specs.Laying.{rows_over};
 ghost use Rattle.store_check.specs.Errors.{CountsCheck};
 ghost use Rattle.store_check.specs.Whole.{AreRows, ChecksTable, IsWhole, places_in};
@@ -8,8 +9,8 @@ ghost use Rattle.store_check.specs.declared.errors.CheckError.TheVariants.{NoMem
 
 use crate::CheckError;
 use crate::page::check_page;
-use drda_disk::Disk;
-use row_pages::{PAGE_BYTES, Pager, one_page};
+use drda_disk::{Disk, PAGE_BYTES};
+use row_pages::{Pager, one_page};
 use row_values::Schema;
 use std::alloc::Global;
 use table_map::{NotedPages, NotedRows, RowKeys, TablePages};
@@ -42,8 +43,8 @@ pub fn check_table<K: RowKeys, D: Disk>(
     at: usize,
     count: usize,
 ) -> Result<NotedPages, CheckError>
-    requires small { at + 8192 * count ≤ 2 ^ 40 }
-    requires inside { at + 8192 * count ≤ length (D.life pager.old).seen }
+    requires small { at + page_bytes * count ≤ 2 ^ 40 }
+    requires inside { at + page_bytes * count ≤ length (D.life pager.old).seen }
     ensures at { IfOk result (λ table. table.pages.at ≡ at) }
     ensures count { IfOk result (λ table. length table.pages.keys ≡ count) }
     ensures told { IsTrue D.is_modelled → ChecksTable schema.now (K.key_of keys.now) (D.life pager.old).seen at count (places_in result) }

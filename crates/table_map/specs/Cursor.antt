@@ -2,6 +2,7 @@
 use Rattle.std.specs.Prelude.{◌≡◌, ℕ, ◌+◌, ◌*◌, ◌^◌, ◌<◌, ◌≤◌, Bool, List, [], ◌∷◌, ◌++◌, Option, Some, None, Result, IfOk, IsTrue, length, map}
 use Rattle.std.specs.Borrow.{Bor}
 use Rattle.std.specs.Ordering.{match_ordering}
+use Rattle.drda_disk.specs.Layout.{page_bytes}
 use Rattle.key_map.specs.Slots.{by_bytes}
 use Rattle.row_pages.specs.Laying.{rows_over}
 use Rattle.row_pages.specs.declared.kept.PageFault.{PageFault}
@@ -104,6 +105,6 @@ SaysStep (Some e) step.Skip = (said e.1.now ≡ None)
 -- the first of the rows that are left was given, of a disk with these bytes, and the pages that come end where they ended
 pub record HasGiven (modelled : Bool) (key_of : List ℕ → List ℕ) (file : List ℕ) (old : RowCursor) (result : Result (Option (Bor (List ℕ))) PageFault) (new : RowCursor) : Type 0 where
   pub gives : (left : Rows) → IsTrue modelled → IsLeft key_of file old left → IfOk result (λ row. GivesFirst key_of file left row new)
-  pub end : new.base.at + 8192 * new.base.pages ≡ old.base.at + 8192 * old.base.pages
+  pub end : new.base.at + page_bytes * new.base.pages ≡ old.base.at + page_bytes * old.base.pages
   pub forward : old.base.at ≤ new.base.at
   pub fewer : IfOk result (λ row. FallsAt row old new)

@@ -1,6 +1,7 @@
 -- Where a table is damaged.
 use Rattle.std.specs.Prelude.{◌≡◌, ℕ, suc, ◌+◌, ◌*◌, ◌<◌, List, [], length, Result, Err}
 use Rattle.drda_words.specs.Place.{part}
+use Rattle.drda_disk.specs.Layout.{page_bytes}
 use Rattle.row_pages.specs.Page.{IsPage, Page}
 use Rattle.row_pages.specs.declared.kept.PageFault.{PageFault}
 use Rattle.row_pages.specs.declared.kept.PageFault.TheVariants.{Damaged}
@@ -18,13 +19,13 @@ HasNoRows bytes = (page : Page) → IsPage page bytes → page.rows ≡ []
 pub record SomePage (P : List ℕ → Type 0) (file : List ℕ) (at count : ℕ) : Type 0 where
   pub number : ℕ
   pub within : number < count
-  pub is : P (part file (at + 8192 * number) 8192)
+  pub is : P (part file (at + page_bytes * number) page_bytes)
 
 -- the page whose first key is the last that this key does not come before is no page
 pub record LacksPage (key : List ℕ) (places : Places) (file : List ℕ) : Type 0 where
   pub number : ℕ
   pub place : IsPlace key places.keys (suc number)
-  pub none : IsNoPage (part file (places.at + 8192 * number) 8192)
+  pub none : IsNoPage (part file (places.at + page_bytes * number) page_bytes)
 
 -- damage is told only where this holds
 abbrev pub DamagedWhere : {T : Type 0} → Type 0 → Result T PageFault → Type 0

@@ -2,6 +2,7 @@
 use Rattle.std.specs.Prelude.{◌≡◌, ℕ, ◌+◌, List, [], ◌∷◌}
 use Rattle.std.specs.List.{AllByRecursion}
 use Rattle.drda_words.specs.Place.{part}
+use Rattle.drda_disk.specs.Layout.{page_bytes}
 use Rattle.row_pages.specs.Page.{IsPage}
 use Rattle.row_pages.specs.Laying.{HasSome, rows_over}
 use Rattle.row_pages.specs.declared.page.PageKind.TheVariants as kind
@@ -16,7 +17,7 @@ pub record Places : Type 0 where
 -- these are the pages of rows from an offset on, one behind another
 abbrev pub AreAt : List ℕ → ℕ → List (List (List ℕ)) → Type 0
 AreAt file at [] = Unit {0}
-AreAt file at (page ∷ pages) = IsPage (record { kind = kind.Rows; rows = page }) (part file at 8192) × AreAt file (at + 8192) pages
+AreAt file at (page ∷ pages) = IsPage (record { kind = kind.Rows; rows = page }) (part file at page_bytes) × AreAt file (at + page_bytes) pages
 
 -- the pages stand there, each has rows, and the keys of all rows rise
 pub record IsStored (key_of : List ℕ → List ℕ) (places : Places) (pages : List (List (List ℕ))) (file : List ℕ) : Type 0 where

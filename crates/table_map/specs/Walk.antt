@@ -3,6 +3,7 @@ use Rattle.std.specs.Prelude.{◌≡◌, ◌⊎◌, ℕ, zero, suc, ◌+◌, Lis
 use Rattle.std.specs.Borrow.{Bor}
 use Rattle.std.specs.List.{slice_get}
 use Rattle.drda_words.specs.Place.{part}
+use Rattle.drda_disk.specs.Layout.{page_bytes}
 use Rattle.row_pages.specs.Page.{IsPage, Page}
 use Rattle.row_pages.specs.declared.page.PageKind.TheVariants as kind
 use Rattle.key_map.specs.Merging.{Rows}
@@ -32,9 +33,9 @@ IsLoaded left = left.rows ≡ [] → left.pages ≡ 0
 -- the next page was read: its rows are left now, and the pages behind it
 pub record ReadsPage (file : List ℕ) (old new : PagesLeft) : Type 0 where
   pub none : old.rows ≡ []
-  pub at : new.at ≡ old.at + 8192
+  pub at : new.at ≡ old.at + page_bytes
   pub pages : old.pages ≡ suc new.pages
-  pub rows : (rows : List (List ℕ)) → IsPage (record { kind = kind.Rows; rows = rows }) (part file old.at 8192) → new.rows ≡ rows
+  pub rows : (rows : List (List ℕ)) → IsPage (record { kind = kind.Rows; rows = rows }) (part file old.at page_bytes) → new.rows ≡ rows
 
 -- nothing is read, or the rows of the page that came, as a disk with these bytes reads it
 abbrev pub Loads : List ℕ → PagesLeft → PagesLeft → Type 0

@@ -3,13 +3,14 @@ ghost use Rattle.std.specs.Prelude.{◌≡◌, ◌+◌, ◌*◌, ◌^◌, ◌<�
 ghost use Rattle.std.specs.List.{slice_get};
 ghost use Rattle.drda_words.specs.Place.{part};
 ghost use Rattle.drda_disk.specs.Disk.{Stays};
+ghost use Rattle.drda_disk.specs.Layout.{page_bytes};
 ghost use Rattle.row_pages.specs.Keeping.{CountsPageFault};
 ghost use Rattle.table_map.specs.Damage.{DamagedWhere, HasNoRows};
 ghost use Rattle.table_map.specs.Keyed.{seen};
 ghost use Rattle.table_map.specs.Walk.{GivesRow, IsFirstRow, IsLoaded, Loads, TakesPage, page_rows};
 
-use drda_disk::Disk;
-use row_pages::{KeptPage, PAGE_BYTES, PageFault, read_page};
+use drda_disk::{Disk, PAGE_BYTES};
+use row_pages::{KeptPage, PageFault, read_page};
 use std::alloc::Global;
 use std::marker::Model;
 
@@ -32,7 +33,7 @@ impl Model for RowsLeft {
 
     ghost view = { λ r. record { at = r.at; pages = r.pages; rows = drop r.given (page_rows r.page); last = last_of r.given (page_rows r.page) } };
 
-    ghost invariant = { λ r. r.at + 8192 * r.pages ≤ 2 ^ 40 };
+    ghost invariant = { λ r. r.at + page_bytes * r.pages ≤ 2 ^ 40 };
 }
 
 /// How many rows a page has that may have been read.
@@ -58,7 +59,7 @@ fn row_of(page: &Option<KeptPage>, number: usize) -> Option<&[u8]>
 impl RowsLeft {
     /// The rows of so many pages, from an offset on.
     pub(crate) fn new(at: usize, pages: usize) -> RowsLeft
-        requires { at + 8192 * pages ≤ 2 ^ 40 }
+        requires { at + page_bytes * pages ≤ 2 ^ 40 }
         ensures { result ≡ record { at = at; pages = pages; rows = []; last = None } }
     {
         RowsLeft {
@@ -71,11 +72,11 @@ impl RowsLeft {
 
     /// Reads the next page where no row is left of the last one. A page without rows is damaged.
     pub(crate) fn settle<D: Disk>(&mut self, alloc: Global, disk: &mut D) -> Result<(), PageFault>
-        requires { self.old.at + 8192 * self.old.pages ≤ length (D.life disk.old).seen }
+        requires { self.old.at + page_bytes * self.old.pages ≤ length (D.life disk.old).seen }
         ensures rows { IsTrue D.is_modelled → OnOk result (Loads (D.life disk.old).seen self.old self.new) }
-        ensures damaged { IsTrue D.is_modelled → DamagedWhere ((0 < self.old.pages) × HasNoRows (part (D.life disk.old).seen self.old.at 8192)) result }
+        ensures damaged { IsTrue D.is_modelled → DamagedWhere ((0 < self.old.pages) × HasNoRows (part (D.life disk.old).seen self.old.at page_bytes)) result }
         ensures settled { OnOk result (IsLoaded self.new) }
-        ensures end { self.new.at + 8192 * self.new.pages ≡ self.old.at + 8192 * self.old.pages }
+        ensures end { self.new.at + page_bytes * self.new.pages ≡ self.old.at + page_bytes * self.old.pages }
         ensures forward { self.old.at ≤ self.new.at }
         ensures weight { self.new.pages * 2 ^ 64 + length self.new.rows ≤ self.old.pages * 2 ^ 64 + length self.old.rows }
         ensures stays { Stays (D.life disk.old) (D.life disk.new) }

@@ -2,6 +2,7 @@
 ghost use Rattle.std.specs.Prelude.{◌≡◌, ◌+◌, ◌*◌, ◌<◌, ◌≤◌, ℕ, List, IsTrue, IfOk, length};
 ghost use Rattle.std.specs.Borrow.{sem};
 ghost use Rattle.drda_disk.specs.Disk.{Stays};
+ghost use Rattle.drda_disk.specs.Layout.{page_bytes};
 ghost use Rattle.row_pages.specs.Keeping.{CountsPageFault};
 ghost use Rattle.key_map.specs.Merging.{Rows};
 ghost use Rattle.table_map.specs.Cursor.{Falls, FallsAt, FindsFirst, HasGiven, IsLeft, SaysStep, Steps, row_found, smaller_of};
@@ -118,11 +119,11 @@ impl<'a> RowCursor<'a> {
         keys: &K,
         disk: &mut D,
     ) -> Result<Option<Place<'a>>, PageFault>
-        requires { self.old.base.at + 8192 * self.old.base.pages ≤ length (D.life disk.old).seen }
+        requires { self.old.base.at + page_bytes * self.old.base.pages ≤ length (D.life disk.old).seen }
         ensures finds { (left : Rows) → IsTrue D.is_modelled → IsLeft (K.key_of keys.now) (D.life disk.old).seen self.old left
             → IfOk result (λ place. FindsFirst (K.key_of keys.now) (D.life disk.old).seen left place self.new) }
         ensures damaged { IsTrue D.is_modelled → DamagedWhere (SomePage HasNoRows (D.life disk.old).seen self.old.base.at self.old.base.pages) result }
-        ensures end { self.new.base.at + 8192 * self.new.base.pages ≡ self.old.base.at + 8192 * self.old.base.pages }
+        ensures end { self.new.base.at + page_bytes * self.new.base.pages ≡ self.old.base.at + page_bytes * self.old.base.pages }
         ensures forward { self.old.base.at ≤ self.new.base.at }
         ensures fewer { IfOk result (λ place. FallsAt place self.old self.new) }
         ensures stays { Stays (D.life disk.old) (D.life disk.new) }
@@ -159,7 +160,7 @@ impl<'a> RowCursor<'a> {
         keys: &K,
         disk: &mut D,
     ) -> Result<Option<&'s [u8]>, PageFault>
-        requires { self.old.base.at + 8192 * self.old.base.pages ≤ length (D.life disk.old).seen }
+        requires { self.old.base.at + page_bytes * self.old.base.pages ≤ length (D.life disk.old).seen }
         ensures* given { sem 𝓛 (EndsAs self.entry (λ cursor. HasGiven D.is_modelled (K.key_of keys.now) (D.life disk.old).seen self.old result cursor)) }
         ensures damaged { IsTrue D.is_modelled → DamagedWhere (SomePage HasNoRows (D.life disk.old).seen self.old.base.at self.old.base.pages) result }
         ensures stays { Stays (D.life disk.old) (D.life disk.new) }

@@ -3,6 +3,7 @@ ghost use Rattle.std.specs.Prelude.{◌≡◌, ◌+◌, ◌<◌, ◌≤◌, ◌+
 ghost use Rattle.std.specs.Arc.{arc_value};
 ghost use Rattle.drda_words.specs.Place.{part};
 ghost use Rattle.drda_disk.specs.Disk.{Stays};
+ghost use Rattle.drda_disk.specs.Layout.{page_bytes};
 ghost use Rattle.row_pages.specs.Page.{IsPage};
 ghost use Rattle.row_pages.specs.Keeping.{CountsPageFault};
 ghost use Rattle.row_pages.specs.declared.kept.PageFault.TheVariants.{NoMemory};
@@ -119,12 +120,12 @@ pub(crate) fn scan_page<K: RowKeys, D: Disk>(
     changes: &mut ChangesLeft<'_>,
     rows: &mut Rows,
 ) -> Result<bool, PageFault>
-    requires { at + 8192 ≤ length (D.life pager.old).seen }
-    ensures rows { (page : List (List ℕ)) → IsTrue D.is_modelled → IsPage (record { kind = PageKind.Rows; rows = page }) (part (D.life pager.old).seen at 8192)
+    requires { at + page_bytes ≤ length (D.life pager.old).seen }
+    ensures rows { (page : List (List ℕ)) → IsTrue D.is_modelled → IsPage (record { kind = PageKind.Rows; rows = page }) (part (D.life pager.old).seen at page_bytes)
         → OnOk result (Passes (K.key_of keys.now) page changes.old changes.new rows.old rows.new) }
     ensures judged { (schema : Schema) → option_map (λ s. arc_value s.now) by.entry ≡ Some schema
         → IfOk result (λ good. IsTrue good → PassesJudged (K.key_of keys.now) schema bounds.entry.first.now (seen bounds.entry.end) changes.old changes.new rows.old rows.new) }
-    ensures damaged { IsTrue D.is_modelled → DamagedWhere (HasNoRows (part (D.life pager.old).seen at 8192)) result }
+    ensures damaged { IsTrue D.is_modelled → DamagedWhere (HasNoRows (part (D.life pager.old).seen at page_bytes)) result }
     ensures stays { Stays (D.life pager.old) (D.life pager.new) }
     ensures cause { CountsPageFault result (D.life pager.old).faults (D.life pager.new).faults }
 {

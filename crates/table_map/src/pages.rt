@@ -3,6 +3,7 @@ ghost use Rattle.std.specs.Prelude.{◌≡◌, ◌+◌, ◌*◌, ◌^◌, ◌<�
 ghost use Rattle.std.specs.List.{slice_get};
 ghost use Rattle.drda_words.specs.Place.{part};
 ghost use Rattle.drda_disk.specs.Disk.{Stays};
+ghost use Rattle.drda_disk.specs.Layout.{page_bytes};
 ghost use Rattle.row_pages.specs.Page.{IsPage};
 ghost use Rattle.row_pages.specs.Laying.{rows_over};
 ghost use Rattle.row_pages.specs.Keeping.{CountsPageFault, TellsDamage};
@@ -15,8 +16,8 @@ ghost use Rattle.table_map.specs.Stored.{IsStored};
 use crate::RowKeys;
 use crate::base::RowsLeft;
 use crate::finding::{find_row, place_of};
-use drda_disk::Disk;
-use row_pages::{JudgedPage, PAGE_BYTES, PageFault, PageKind, Pager};
+use drda_disk::{Disk, PAGE_BYTES};
+use row_pages::{JudgedPage, PageFault, PageKind, Pager};
 use row_values::Schema;
 use std::alloc::{AllocError, Global};
 use std::marker::Model;
@@ -36,7 +37,7 @@ impl Model for TablePages {
 
     ghost view = { λ p. record { at = p.at; keys = map (λ k. k.items) p.first_keys.items } };
 
-    ghost invariant = { λ p. p.at + 8192 * length p.first_keys.items ≤ 2 ^ 40 };
+    ghost invariant = { λ p. p.at + page_bytes * length p.first_keys.items ≤ 2 ^ 40 };
 }
 
 /// What was found at a key: the row there, in new memory, or that there is none.
@@ -98,11 +99,11 @@ fn row_in_page<K: RowKeys, D: Disk>(
     schema: &Schema,
     key: &[u8],
 ) -> Result<JudgedRow, PageFault>
-    requires { at + 8192 ≤ length (D.life pager.old).seen }
-    ensures found { (rows : List (List ℕ)) → IsTrue D.is_modelled → IsPage (record { kind = PageKind.Rows; rows = rows }) (part (D.life pager.old).seen at 8192)
+    requires { at + page_bytes ≤ length (D.life pager.old).seen }
+    ensures found { (rows : List (List ℕ)) → IsTrue D.is_modelled → IsPage (record { kind = PageKind.Rows; rows = rows }) (part (D.life pager.old).seen at page_bytes)
         → InOrder (keyed_rows (K.key_of keys.now) rows) → IfOk result (λ found. copied found.row ≡ row_at key.now (keyed_rows (K.key_of keys.now) rows)) }
     ensures judged { IfOk result (λ found. IsTrue found.is_judged → IfSome found.row (λ row. IsRowOf (K.key_of keys.now) schema.now key.now row.items)) }
-    ensures damaged { IsTrue D.is_modelled → TellsDamage (part (D.life pager.old).seen at 8192) result }
+    ensures damaged { IsTrue D.is_modelled → TellsDamage (part (D.life pager.old).seen at page_bytes) result }
     ensures stays { Stays (D.life pager.old) (D.life pager.new) }
     ensures cause { CountsPageFault result (D.life pager.old).faults (D.life pager.new).faults }
 {
@@ -117,7 +118,7 @@ impl TablePages {
     /// Pages that lie from an offset on, one behind another, by the key of each one's first row. Takes no
     /// memory.
     pub fn new(at: usize, first_keys: Vec<Vec<u8>>) -> TablePages
-        requires { at + 8192 * length first_keys.items ≤ 2 ^ 40 }
+        requires { at + page_bytes * length first_keys.items ≤ 2 ^ 40 }
         ensures { result ≡ record { at = at; keys = map (λ key. key.items) first_keys.items } }
     {
         TablePages { at, first_keys }
@@ -126,7 +127,7 @@ impl TablePages {
     /// Where the first page lies.
     pub(crate) fn at(&self) -> usize
         ensures at { result ≡ self.now.at }
-        ensures small { result + 8192 * length self.now.keys ≤ 2 ^ 40 }
+        ensures small { result + page_bytes * length self.now.keys ≤ 2 ^ 40 }
     {
         self.at
     }
@@ -167,7 +168,7 @@ impl TablePages {
         schema: &Schema,
         key: &[u8],
     ) -> Result<JudgedRow, PageFault>
-        requires { self.now.at + 8192 * length self.now.keys ≤ length (D.life pager.old).seen }
+        requires { self.now.at + page_bytes * length self.now.keys ≤ length (D.life pager.old).seen }
         ensures found { (pages : List (List (List ℕ))) → IsTrue D.is_modelled → IsStored (K.key_of keys.now) self.now pages (D.life pager.old).seen
             → IfOk result (λ found. copied found.row ≡ row_at key.now (keyed_rows (K.key_of keys.now) (rows_over pages))) }
         ensures judged { IfOk result (λ found. IsTrue found.is_judged → IfSome found.row (λ row. IsRowOf (K.key_of keys.now) schema.now key.now row.items)) }

@@ -1,5 +1,6 @@
 //! How many pages a table can take, without a look at any.
 ghost use Rattle.std.specs.Prelude.{◌≡◌, ◌+◌, ◌*◌, ◌^◌, ◌≤◌, ℕ, List, length};
+ghost use Rattle.drda_disk.specs.Layout.{page_bytes};
 ghost use Rattle.row_pages.specs.Laying.{counted, laid};
 ghost use Rattle.key_map.specs.Walk.{rows_left};
 ghost use Rattle.table_map.specs.Room.{bytes_of, most_by_bytes};
@@ -34,7 +35,7 @@ fn count_changes(changes: Rows<'_>) -> CountedChanges
 /// behind another the rows have more bytes than one page has room for. 2^64 - 1 where the bytes, counted up to that, are
 /// more than 2^60.
 fn most_with(pages: usize, bytes: usize) -> usize
-    requires { 8192 * pages ≤ 2 ^ 40 }
+    requires { page_bytes * pages ≤ 2 ^ 40 }
     ensures { (all : ℕ) → bytes ≡ counted all → counted (most_by_bytes pages all) ≤ result }
 {
     if bytes > 1 << 60 {

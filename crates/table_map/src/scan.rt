@@ -3,6 +3,7 @@ ghost use Rattle.std.specs.Prelude.{◌≡◌, ◌+◌, ◌*◌, ◌≤◌, ◌+
 ghost use Rattle.std.specs.Arc.{arc_value};
 ghost use Rattle.drda_disk.specs.Disk.{Stays};
 ghost use Rattle.std.specs.List.{AllByRecursion};
+ghost use Rattle.drda_disk.specs.Layout.{page_bytes};
 ghost use Rattle.row_pages.specs.Laying.{IsShort, counted, laid, pages_with};
 ghost use Rattle.row_pages.specs.Keeping.{CountsPageFault};
 ghost use Rattle.table_map.specs.Cursor.{IsLeft};
@@ -16,8 +17,8 @@ ghost use Rattle.table_map.specs.Table.{rows_of_table, without_keys};
 use crate::changes::ChangesLeft;
 use crate::page_scan::{push_rest, scan_page};
 use crate::{RowCursor, RowKeys, TableMap};
-use drda_disk::Disk;
-use row_pages::{PAGE_BYTES, PageCount, PageFault, Pager};
+use drda_disk::{Disk, PAGE_BYTES};
+use row_pages::{PageCount, PageFault, Pager};
 use row_values::Schema;
 use std::alloc::Global;
 use std::sync::Arc;
@@ -51,7 +52,7 @@ impl TableMap {
     pub fn rows(&self) -> RowCursor<'_>
         ensures left { (key_of : List ℕ → List ℕ) (pages : List (List (List ℕ))) (file : List ℕ) → IsStored key_of self.now.places pages file
             → IsLeft key_of file result (rows_of_table key_of self.now pages) }
-        ensures end { result.base.at + 8192 * result.base.pages ≡ self.now.places.at + 8192 * length self.now.places.keys }
+        ensures end { result.base.at + page_bytes * result.base.pages ≡ self.now.places.at + page_bytes * length self.now.places.keys }
         ensures begins { result.base.at ≡ self.now.places.at }
     {
         RowCursor {
@@ -76,7 +77,7 @@ impl TableMap {
         by: Option<&Arc<Schema, Global>>,
         rows: &mut Rows,
     ) -> Result<bool, PageFault>
-        requires { self.now.places.at + 8192 * length self.now.places.keys ≤ length (D.life pager.old).seen }
+        requires { self.now.places.at + page_bytes * length self.now.places.keys ≤ length (D.life pager.old).seen }
         ensures rows { (pages : List (List (List ℕ))) → IsTrue D.is_modelled → IsStored (K.key_of keys.now) self.now.places pages (D.life pager.old).seen
             → OnOk result (rows.new ≡ rows.old ++ without_keys (rows_of_table (K.key_of keys.now) self.now pages)) }
         ensures judged { (schema : Schema) → option_map (λ s. arc_value s.now) by.entry ≡ Some schema → RiseByKeys (K.key_of keys.now) schema
@@ -114,7 +115,7 @@ impl TableMap {
         keys: &K,
         disk: &mut D,
     ) -> Result<usize, PageFault>
-        requires { self.now.places.at + 8192 * length self.now.places.keys ≤ length (D.life disk.old).seen }
+        requires { self.now.places.at + page_bytes * length self.now.places.keys ≤ length (D.life disk.old).seen }
         ensures count { (pages : List (List (List ℕ))) → IsTrue D.is_modelled → IsStored (K.key_of keys.now) self.now.places pages (D.life disk.old).seen
             → IfOk result (λ count. count ≡ counted (length (laid (without_keys (rows_of_table (K.key_of keys.now) self.now pages))))) }
         ensures damaged { (pages : List (List (List ℕ))) → IsTrue D.is_modelled → IsStored (K.key_of keys.now) self.now.places pages (D.life disk.old).seen

@@ -1,6 +1,7 @@
 //! A table's rows: those of its pages with the changes since.
 ghost use Rattle.std.specs.Prelude.{◌≡◌, ◌+◌, ◌*◌, ◌<◌, ◌≤◌, ℕ, List, [], IsTrue, Some, None, OnOk, IfErr, IfOk, IfSome, false, length};
 ghost use Rattle.drda_disk.specs.Disk.{Stays};
+ghost use Rattle.drda_disk.specs.Layout.{page_bytes};
 ghost use Rattle.row_pages.specs.Laying.{rows_over};
 ghost use Rattle.row_pages.specs.Keeping.{CountsPageFault};
 ghost use Rattle.row_pages.specs.declared.kept.PageFault.TheVariants.{NoMemory};
@@ -76,7 +77,7 @@ impl TableMap {
         schema: &Schema,
         key: &[u8],
     ) -> Result<JudgedRow, PageFault>
-        requires { self.now.places.at + 8192 * length self.now.places.keys ≤ length (D.life pager.old).seen }
+        requires { self.now.places.at + page_bytes * length self.now.places.keys ≤ length (D.life pager.old).seen }
         ensures found { (pages : List (List (List ℕ))) → IsTrue D.is_modelled → IsStored (K.key_of keys.now) self.now.places pages (D.life pager.old).seen
             → IfOk result (λ found. copied found.row ≡ row_at key.now (rows_of_table (K.key_of keys.now) self.now pages)) }
         ensures judged { IfOk result (λ found. IsTrue found.is_judged → IfSome found.row (λ row. IsKnown (K.key_of keys.now) schema.now key.now (changes_of self.now.overlay) row.items)) }

@@ -1,6 +1,7 @@
 //! Going over pages whose rows are all left.
 ghost use Rattle.std.specs.Prelude.{◌≡◌, ◌+◌, ◌*◌, ◌≤◌, IfOk, IfSome, IsTrue, length};
 ghost use Rattle.drda_disk.specs.Disk.{Stays};
+ghost use Rattle.drda_disk.specs.Layout.{page_bytes};
 ghost use Rattle.row_pages.specs.Keeping.{CountsPageFault};
 ghost use Rattle.key_map.specs.Merging.{Rows};
 ghost use Rattle.table_map.specs.Cursor.{IsLeft};
@@ -42,12 +43,12 @@ impl<'a> RowCursor<'a> {
         disk: &mut D,
         room: usize,
     ) -> Result<Option<KeptPage>, PageFault>
-        requires { self.old.base.at + 8192 * self.old.base.pages ≤ length (D.life disk.old).seen }
+        requires { self.old.base.at + page_bytes * self.old.base.pages ≤ length (D.life disk.old).seen }
         ensures given { (left : Rows) → IsTrue D.is_modelled → IsLeft (K.key_of keys.now) (D.life disk.old).seen self.old left
             → IfOk result (λ page. GivesPage (K.key_of keys.now) (D.life disk.old).seen left page self.new) }
         ensures first { IfOk result (λ page. IfSome page (λ page. TakesMore room page.rows)) }
         ensures damaged { IsTrue D.is_modelled → DamagedWhere (SomePage HasNoRows (D.life disk.old).seen self.old.base.at self.old.base.pages) result }
-        ensures end { self.new.base.at + 8192 * self.new.base.pages ≡ self.old.base.at + 8192 * self.old.base.pages }
+        ensures end { self.new.base.at + page_bytes * self.new.base.pages ≡ self.old.base.at + page_bytes * self.old.base.pages }
         ensures forward { self.old.base.at ≤ self.new.base.at }
         ensures fewer { IfOk result (λ page. FallsBy page self.old self.new) }
         ensures stays { Stays (D.life disk.old) (D.life disk.new) }

@@ -15,8 +15,8 @@ use Rattle.unit_journal.specs.Stands.{StandsFrom, Stands, IsBeforeOrAfterAll}
 use Rattle.unit_journal.specs.Adding.{Adds}
 use Rattle.unit_journal.specs.Journal.{IsSettled}
 use Rattle.unit_journal.specs.Staged.{AddsBehind, IsAtRest, IsUnderWay, ahead_of, body_of, is_settled, journal_of, next_of, region_of}
-use Rattle.unit_journal.specs.declared.errors.AppendError.{AppendError}
-use Rattle.unit_journal.specs.declared.errors.AppendError.TheVariants.{DeviceFailed, Full}
+use Rattle.drda_disk.specs.declared.errors.WriteError.{WriteError}
+use Rattle.drda_disk.specs.declared.errors.WriteError.TheVariants.{DeviceFailed, Full}
 use Rattle.unit_journal.specs.declared.journal.Journal.{Journal}
 use Rattle.unit_journal.specs.declared.staged.Staged.{Staged}
 use Rattle.unit_journal.proofs.Spelling.{byte_part}
@@ -191,13 +191,13 @@ module _ (modelled : Bool) (old mid : Life) (s : Staged) (es hs : List Entry) (u
 -- ---- records are added at rest
 
 module _ (modelled : Bool) (old mid new : Life) (s after : Staged) (gs : List Entry) (bytes hold release : ℕ) (stays : Stays old mid) (faults : mid.faults ≡ old.faults) (only : (es : List Entry) → IsUnderWay modelled old s es → IsSettled modelled mid (journal_of s) es) where
-  any_moment : {T : Type 0} (r : Result T AppendError) → Adds modelled mid new (journal_of s) (journal_of after) gs bytes hold release r → (es : List Entry) → IsUnderWay modelled old s es → LeavesOnly old new (IsBeforeOrAfterAll (region_of s) old.seen es gs)
+  any_moment : {T : Type 0} (r : Result T WriteError) → Adds modelled mid new (journal_of s) (journal_of after) gs bytes hold release r → (es : List Entry) → IsUnderWay modelled old s es → LeavesOnly old new (IsBeforeOrAfterAll (region_of s) old.seen es gs)
   any_moment r adds es u = and_then old mid new _ _ _ (staying modelled old mid s es u stays) (adds.any_moment es (only es u)) (λ c b. or_more (region_of s) old.seen es gs c b) (λ c b. subst (λ (l : List ℕ). IsBeforeOrAfterAll (region_of s) l es gs c) stays.same b)
 
-  others : {T : Type 0} (r : Result T AppendError) → Adds modelled mid new (journal_of s) (journal_of after) gs bytes hold release r → SameOutside (region_of s) old.seen new.seen
+  others : {T : Type 0} (r : Result T WriteError) → Adds modelled mid new (journal_of s) (journal_of after) gs bytes hold release r → SameOutside (region_of s) old.seen new.seen
   others r adds = subst (λ (l : List ℕ). SameOutside (region_of s) l new.seen) stays.same adds.others
 
-  behind_rest : {T : Type 0} (r : Result T AppendError) → IsAtRest after → Adds modelled mid new (journal_of s) (journal_of after) gs bytes hold release r → AddsBehind modelled old new s after gs bytes hold release r
+  behind_rest : {T : Type 0} (r : Result T WriteError) → IsAtRest after → Adds modelled mid new (journal_of s) (journal_of after) gs bytes hold release r → AddsBehind modelled old new s after gs bytes hold release r
   behind_rest (Ok x) rest adds = record {
     ok = λ es u. begins_at_rest modelled new after rest (es ++ gs) (adds.ok es (only es u));
     any_moment = any_moment (Ok x) adds;
@@ -224,5 +224,5 @@ module _ (modelled : Bool) (old mid new : Life) (s after : Staged) (gs : List En
   }
 
   -- the journal that they were added to is the one at rest
-  pub rested_then : {T : Type 0} (r : Result T AppendError) (before : Journal) → before ≡ journal_of s → IsAtRest after → Adds modelled mid new before (journal_of after) gs bytes hold release r → AddsBehind modelled old new s after gs bytes hold release r
+  pub rested_then : {T : Type 0} (r : Result T WriteError) (before : Journal) → before ≡ journal_of s → IsAtRest after → Adds modelled mid new before (journal_of after) gs bytes hold release r → AddsBehind modelled old new s after gs bytes hold release r
   rested_then r before same rest adds = behind_rest r rest (subst (λ (j : Journal). Adds modelled mid new j (journal_of after) gs bytes hold release r) same adds)

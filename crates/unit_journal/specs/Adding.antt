@@ -1,13 +1,14 @@
 -- What the calls that begin a journal, or add to it, ask for and answer.
 use Rattle.std.specs.Prelude.{◌≡◌, ℕ, ◌+◌, ◌^◌, ◌<◌, ◌≤◌, Bool, List, ◌++◌, length, Result, OnOk}
 use Rattle.drda_disk.specs.Disk.{LeavesOnly, Life}
+use Rattle.drda_disk.specs.Errors.{CountsWrite}
 use Rattle.drda_disk.specs.Region.{SameOutside, end_of}
 use Rattle.drda_disk.specs.declared.region.Region.{Region}
 use Rattle.unit_journal.specs.Record.{Entry, laid}
 use Rattle.unit_journal.specs.Stands.{IsBeforeOrAfterAll}
 use Rattle.unit_journal.specs.Journal.{IsSettled, held_of, next_of, region_of, room_of}
-use Rattle.unit_journal.specs.Errors.{CountsAppend, SaysFull}
-use Rattle.unit_journal.specs.declared.errors.AppendError.{AppendError}
+use Rattle.unit_journal.specs.Errors.{SaysFull}
+use Rattle.drda_disk.specs.declared.errors.WriteError.{WriteError}
 use Rattle.unit_journal.specs.declared.journal.Journal.{Journal}
 
 -- a region of a disk of this size may have a journal: it has a byte at least and 2^32 at most, and lies in the disk
@@ -37,10 +38,10 @@ pub record Takes (old : Journal) (bytes hold release : ℕ) (new : Journal) : Ty
 
 -- What adding them makes of a disk and a journal. A crash at any moment leaves the records from before, with all of these or
 -- without; `Full` is told exactly where they have no room, and a failure of the device is counted.
-pub record Adds {T : Type 0} (modelled : Bool) (old new : Life) (before after : Journal) (gs : List Entry) (bytes hold release : ℕ) (result : Result T AppendError) : Type 0 where
+pub record Adds {T : Type 0} (modelled : Bool) (old new : Life) (before after : Journal) (gs : List Entry) (bytes hold release : ℕ) (result : Result T WriteError) : Type 0 where
   pub ok : (es : List Entry) → IsSettled modelled old before es → OnOk result (IsSettled modelled new after (es ++ gs))
   pub any_moment : (es : List Entry) → IsSettled modelled old before es → LeavesOnly old new (IsBeforeOrAfterAll (region_of before) old.seen es gs)
   pub others : SameOutside (region_of before) old.seen new.seen
   pub full : SaysFull result (bytes + hold) release (room_of before)
-  pub cause : CountsAppend result old.faults new.faults
+  pub cause : CountsWrite result old.faults new.faults
   pub takes : OnOk result (Takes before bytes hold release after)

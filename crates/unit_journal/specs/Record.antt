@@ -2,6 +2,7 @@
 use Rattle.std.specs.Prelude.{ℕ, ◌-◌, ◌^◌, ◌<◌, List, [], ◌∷◌, ◌++◌, length, map, take, drop}
 use Rattle.std.specs.List.{AllByRecursion}
 use Rattle.std.specs.Int.{w32, to_be_bytes}
+use Rattle.drda_disk.specs.Layout.{open_gate}
 use Rattle.unit_journal.specs.Kind.{code_of}
 use Rattle.unit_journal.specs.declared.kind.Kind.{Kind}
 use Rattle.unit_journal.specs.declared.record.Record.{Record}
@@ -28,7 +29,7 @@ body_in bytes = take (length bytes - 6) (drop 5 bytes)
 -- records with open gates, one behind another
 abbrev pub laid : List Entry → List ℕ
 laid [] = []
-laid (e ∷ es) = 165 ∷ (behind e ++ laid es)
+laid (e ∷ es) = open_gate ∷ (behind e ++ laid es)
 
 -- bodies whose length has four bytes
 abbrev pub AreShort : List Entry → Type 0

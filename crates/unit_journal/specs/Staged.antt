@@ -2,14 +2,15 @@
 use Rattle.std.specs.Prelude.{◌≡◌, ℕ, ◌+◌, ◌<◌, ◌≤◌, Bool, true, false, IsTrue, List, [], ◌∷◌, ◌++◌, length, drop, Option, Some, None, Result, OnOk}
 use Rattle.drda_words.specs.Place.{part}
 use Rattle.drda_disk.specs.Disk.{LeavesOnly, Life, Now, Only}
+use Rattle.drda_disk.specs.Errors.{CountsWrite}
 use Rattle.drda_disk.specs.Region.{SameOutside}
 use Rattle.drda_disk.specs.declared.region.Region.{Region}
 use Rattle.unit_journal.specs.Record.{Entry, laid}
 use Rattle.unit_journal.specs.Stands.{IsBeforeOrAfterAll, Stands}
 use Rattle.unit_journal.specs.Adding.{Takes}
-use Rattle.unit_journal.specs.Errors.{CountsAppend, SaysFull}
+use Rattle.unit_journal.specs.Errors.{SaysFull}
 use Rattle.unit_journal.specs.Journal.{room_of}
-use Rattle.unit_journal.specs.declared.errors.AppendError.{AppendError}
+use Rattle.drda_disk.specs.declared.errors.WriteError.{WriteError}
 use Rattle.unit_journal.specs.declared.journal.Journal.{Journal}
 use Rattle.unit_journal.specs.declared.staged.Staged.{Staged}
 
@@ -58,12 +59,12 @@ pub record IsAtRest (s : Staged) : Type 0 where
 -- What adding records makes of a disk and a journal behind which others may have been laid. A crash at any moment leaves the
 -- records from before, with all of these or without; `Full` is told exactly where they have no room, and a failure of the
 -- device is counted.
-pub record AddsBehind {T : Type 0} (modelled : Bool) (old new : Life) (before after : Staged) (gs : List Entry) (bytes hold release : ℕ) (result : Result T AppendError) : Type 0 where
+pub record AddsBehind {T : Type 0} (modelled : Bool) (old new : Life) (before after : Staged) (gs : List Entry) (bytes hold release : ℕ) (result : Result T WriteError) : Type 0 where
   pub ok : (es : List Entry) → IsUnderWay modelled old before es → OnOk result (IsUnderWay modelled new after (es ++ gs))
   pub any_moment : (es : List Entry) → IsUnderWay modelled old before es → LeavesOnly old new (IsBeforeOrAfterAll (region_of before) old.seen es gs)
   pub others : SameOutside (region_of before) old.seen new.seen
   pub full : SaysFull result (bytes + hold) release (room_of (journal_of before))
-  pub cause : CountsAppend result old.faults new.faults
+  pub cause : CountsWrite result old.faults new.faults
   pub takes : OnOk result (Takes (journal_of before) bytes hold release (journal_of after))
 
 -- whether a group lies behind the records then: exactly where it has room with what is held back and released

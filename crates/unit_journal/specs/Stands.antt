@@ -4,6 +4,7 @@ use Rattle.std.specs.Int.{w32, from_be_bytes}
 use Rattle.drda_words.specs.Place.{part}
 use Rattle.drda_disk.specs.Region.{end_of, SameOutside}
 use Rattle.drda_disk.specs.declared.region.Region.{Region}
+use Rattle.drda_disk.specs.Layout.{open_gate}
 use Rattle.unit_journal.specs.Kind.{code_of}
 use Rattle.unit_journal.specs.Record.{Entry, laid, AreShort}
 use Rattle.unit_journal.specs.declared.kind.Kind.{Kind}
@@ -11,7 +12,7 @@ use Rattle.unit_journal.specs.declared.kind.Kind.{Kind}
 -- from an offset on there are these records, and then a closed gate, below limit
 pub record StandsFrom (at limit : ℕ) (es : List Entry) (image : List ℕ) : Type 0 where
   pub gate : ℕ
-  pub shut : gate ≢ 165
+  pub shut : gate ≢ open_gate
   pub spelled : part image at (length (laid es) + 1) ≡ laid es ++ gate ∷ []
   pub within : at + length (laid es) < limit
   pub inside : limit ≤ length image
@@ -34,7 +35,7 @@ pub record DamagedFrom (at limit : ℕ) (gate : ℕ) (image : List ℕ) : Type 0
   pub place : gate ≡ at + length (laid es)
   pub within : gate < limit
   pub inside : limit ≤ length image
-  pub is_open : slice_index image gate ≡ 165
+  pub is_open : slice_index image gate ≡ open_gate
   pub no_record : IsNoRecord image gate limit
 
 -- a region is damaged at this offset

@@ -1,14 +1,15 @@
 //! Adding a record, or several at once.
 ghost use Rattle.std.specs.Prelude.{◌≡◌, ◌+◌, ◌^◌, ◌<◌, ◌≤◌, ◌++◌, ◌∷◌, [], List, length, OnErr};
 ghost use Rattle.unit_journal.specs.Adding.{Adds, MayAdd};
-ghost use Rattle.unit_journal.specs.Errors.{Lacks, OnRefused};
+ghost use Rattle.drda_disk.specs.Errors.{OnFull};
+ghost use Rattle.drda_disk.specs.Layout.{open_gate};
+ghost use Rattle.unit_journal.specs.Errors.{Lacks};
 ghost use Rattle.unit_journal.specs.Journal.{held_of, room_of};
 ghost use Rattle.unit_journal.specs.LaidRecord.{entry_in};
 ghost use Rattle.unit_journal.specs.Record.{Entry, laid};
 
-use crate::record::OPEN;
-use crate::{AppendError, Full, Journal, LaidGroup, LaidRecord};
-use drda_disk::{Disk, write_through};
+use crate::{Journal, LaidGroup, LaidRecord};
+use drda_disk::{Disk, Full, OPEN_GATE, WriteError, write_through};
 
 impl Journal {
     /// Adds a record. Once this succeeds the record outlasts a crash; a crash at any moment before
@@ -24,12 +25,12 @@ impl Journal {
         laid: &LaidRecord,
         hold: usize,
         release: usize,
-    ) -> Result<(), AppendError>
+    ) -> Result<(), WriteError>
         requires may { MayAdd (length (D.life disk.old).seen) self.old (6 + length (entry_in laid.now).body) hold release }
         // A crash at any moment of the call leaves the records from before it, with the new one or without.
         ensures adds { Adds D.is_modelled (D.life disk.old) (D.life disk.new) self.old self.new (entry_in laid.now ∷ []) (6 + length (entry_in laid.now).body) hold release result }
         ensures same { OnErr result (self.new ≡ self.old) }
-        ensures refused { OnRefused result ((self.new ≡ self.old) × (disk.new ≡ disk.old)) }
+        ensures refused { OnFull result ((self.new ≡ self.old) × (disk.new ≡ disk.old)) }
     {
         self.append_behind(disk, laid.bytes(), hold, release)
     }
@@ -48,12 +49,12 @@ impl Journal {
         group: &LaidGroup,
         hold: usize,
         release: usize,
-    ) -> Result<(), AppendError>
+    ) -> Result<(), WriteError>
         requires may { MayAdd (length (D.life disk.old).seen) self.old (length (laid group.now)) hold release }
         // A crash at any moment of the call leaves the records from before it, with all of the group or without.
         ensures adds { Adds D.is_modelled (D.life disk.old) (D.life disk.new) self.old self.new group.now (length (laid group.now)) hold release result }
         ensures same { OnErr result (self.new ≡ self.old) }
-        ensures refused { OnRefused result ((self.new ≡ self.old) × (disk.new ≡ disk.old)) }
+        ensures refused { OnFull result ((self.new ≡ self.old) × (disk.new ≡ disk.old)) }
     {
         self.append_behind(disk, group.bytes(), hold, release)
     }
@@ -82,19 +83,19 @@ impl Journal {
         bytes: &[u8],
         hold: usize,
         release: usize,
-    ) -> Result<(), AppendError>
+    ) -> Result<(), WriteError>
         requires may { MayAdd (length (D.life disk.old).seen) self.old (length bytes.now) hold release }
-        ensures adds { (gs : List Entry) → 165 ∷ bytes.now ≡ laid gs ++ 0 ∷ []
+        ensures adds { (gs : List Entry) → open_gate ∷ bytes.now ≡ laid gs ++ 0 ∷ []
             → Adds D.is_modelled (D.life disk.old) (D.life disk.new) self.old self.new gs (length bytes.now) hold release result }
         ensures same { OnErr result (self.new ≡ self.old) }
-        ensures refused { OnRefused result ((self.new ≡ self.old) × (disk.new ≡ disk.old)) }
+        ensures refused { OnFull result ((self.new ≡ self.old) × (disk.new ≡ disk.old)) }
     {
         match self.lacks(bytes.len(), hold, release) {
-            Some(full) => return Err(AppendError::Full(full)),
+            Some(full) => return Err(WriteError::Full(full)),
             None => {}
         }
         write_through(disk, self.next + 1, bytes)?;
-        write_through(disk, self.next, &[OPEN])?;
+        write_through(disk, self.next, &[OPEN_GATE])?;
         self.next += bytes.len();
         self.held = self.held - release + hold;
         Ok(())

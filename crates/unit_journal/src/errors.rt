@@ -1,36 +1,9 @@
 //! Why a journal's call was refused.
 ghost use Rattle.std.specs.Prelude.{◌≡◌};
 
-use drda_disk::{DiskFault, ReadFault};
+use drda_disk::{DiskError, DiskFault, Full};
 use std::alloc::{AllocError, AllocFailed};
 use thiserror::Error;
-
-/// There is no room: `need` bytes are asked for and `room` are there.
-#[derive(Clone, Copy, Debug, PartialEq, Eq, Error)]
-#[error("{need} bytes are needed and there is room for {room}")]
-pub struct Full {
-    pub need: usize,
-    pub room: usize,
-}
-
-/// Why no record was added.
-#[derive(Clone, Copy, Debug, PartialEq, Eq, Error)]
-pub enum AppendError {
-    #[error(transparent)]
-    Full(Full),
-    #[error("the device failed")]
-    DeviceFailed,
-}
-
-impl From<DiskFault> for AppendError {
-    ghost use Rattle.unit_journal.specs.declared.errors.AppendError.TheVariants.{DeviceFailed};
-
-    ghost from_gives = { λ _ e. e ≡ DeviceFailed };
-
-    fn from(_: DiskFault) -> Self {
-        AppendError::DeviceFailed
-    }
-}
 
 /// Why no records were laid.
 #[derive(Clone, Copy, Debug, PartialEq, Eq, Error)]
@@ -95,15 +68,15 @@ impl From<DiskFault> for OpenError {
     }
 }
 
-impl From<ReadFault> for OpenError {
+impl From<DiskError> for OpenError {
     ghost use Rattle.unit_journal.specs.Open.{open_error_of};
 
     ghost from_gives = { λ fault e. e ≡ open_error_of fault };
 
-    fn from(fault: ReadFault) -> Self {
+    fn from(fault: DiskError) -> Self {
         match fault {
-            ReadFault::NoMemory => OpenError::NoMemory,
-            ReadFault::DeviceFailed => OpenError::DeviceFailed,
+            DiskError::NoMemory => OpenError::NoMemory,
+            DiskError::DeviceFailed => OpenError::DeviceFailed,
         }
     }
 }

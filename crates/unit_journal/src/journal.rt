@@ -3,9 +3,8 @@ ghost use Rattle.std.specs.Prelude.{◌≡◌, ◌+◌, ◌-◌, ◌^◌, ◌<�
 ghost use Rattle.drda_disk.specs.Region.{end_of, SameOutside};
 ghost use Rattle.drda_disk.specs.Disk.{Only, LeavesOnly, CountsFault};
 
-use crate::Full;
 use crate::record::CLOSED;
-use drda_disk::{Disk, DiskFault, Region, write_through};
+use drda_disk::{Disk, DiskFault, Full, Region, write_through};
 
 /// The records of a region of a disk, one behind another from its first byte on, with a closed gate
 /// behind the last. Some of the room behind that can be held back for records to come.

@@ -1,10 +1,11 @@
 //! Records that are put together before they are added at once.
 ghost use Rattle.std.specs.Prelude.{◌≡◌, ◌↔◌, IsTrue, ◌-◌, ◌<◌, ◌++◌, ◌∷◌, [], length, slice_set, OnOk, OnErr};
+ghost use Rattle.drda_disk.specs.Layout.{open_gate};
 ghost use Rattle.unit_journal.specs.Record.{laid};
 ghost use Rattle.unit_journal.specs.LaidRecord.{entry_in};
 
 use crate::LaidRecord;
-use crate::record::OPEN;
+use drda_disk::OPEN_GATE;
 use std::alloc::AllocError;
 use std::marker::Model;
 
@@ -33,12 +34,12 @@ impl Model for LaidGroup {
 /// Opens the gate that the bytes end with, and puts the bytes of its record behind it.
 fn put_behind(bytes: &mut Vec<u8>, more: &[u8]) -> Result<(), AllocError>
     requires { 0 < length bytes.old.items }
-    ensures ok { OnOk result (bytes.new.items ≡ slice_set (bytes.old.items ++ more.now) (length bytes.old.items - 1) 165) }
+    ensures ok { OnOk result (bytes.new.items ≡ slice_set (bytes.old.items ++ more.now) (length bytes.old.items - 1) open_gate) }
     ensures err { OnErr result (bytes.new.items ≡ bytes.old.items) }
 {
     let gate = bytes.len() - 1;
     bytes.extend_from_slice(more)?;
-    bytes[gate] = OPEN;
+    bytes[gate] = OPEN_GATE;
     Ok(())
 }
 
@@ -77,7 +78,7 @@ impl LaidGroup {
 
     /// What is written behind the gate of the first.
     pub(crate) fn bytes(&self) -> &[u8]
-        ensures bytes { 165 ∷ result.now ≡ laid self.now ++ 0 ∷ [] }
+        ensures bytes { open_gate ∷ result.now ≡ laid self.now ++ 0 ∷ [] }
         ensures len { length result.now ≡ length (laid self.now) }
     {
         &self.bytes

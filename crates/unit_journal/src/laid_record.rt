@@ -3,11 +3,11 @@ ghost use Rattle.std.specs.Prelude.{◌≡◌, ◌+◌, ◌^◌, ◌<◌, ◌≤
 ghost use Rattle.unit_journal.specs.Record.{behind, body_in};
 
 use crate::Kind;
-use crate::record::{CLOSED, HEAD, head_of};
+use crate::record::{CLOSED, HEAD_BYTES, head_of};
 use std::alloc::{AllocError, Global};
 
 /// The bytes before a record's body but for its gate: its kind and the length of the body.
-const FRONT: usize = HEAD - 1;
+const FRONT: usize = HEAD_BYTES - 1;
 
 /// A record as it goes onto the disk, all but its gate: its kind, the length of its body, the body,
 /// and the closed gate of the next record. The body was written behind room for the bytes before it,
@@ -41,7 +41,7 @@ impl LaidRecord {
         ensures front { IfOk result (λ bytes. length bytes.items ≡ 5) }
         ensures room { IfOk result (λ bytes. 6 + len ≤ vec_capacity bytes) }
     {
-        let mut bytes = Vec::with_capacity(alloc, HEAD + len)?;
+        let mut bytes = Vec::with_capacity(alloc, HEAD_BYTES + len)?;
         bytes.extend_from_slice(&[0; FRONT])?;
         Ok(bytes)
     }

@@ -2,13 +2,14 @@
 ghost use Rattle.std.specs.Prelude.{◌≡◌, ◌+◌, ◌-◌, ◌^◌, ◌<◌, ◌≤◌, ◌++◌, ◌∷◌, [], min, ℕ, List, IsTrue, OnOk, IfOk, length};
 ghost use Rattle.drda_disk.specs.Disk.{LeavesOnly, Torn, Within};
 ghost use Rattle.drda_disk.specs.Region.{end_of, SameOutside};
+ghost use Rattle.drda_disk.specs.Layout.{open_gate};
 ghost use Rattle.unit_journal.specs.Record.{laid, behind, entry_of, entries_of};
 ghost use Rattle.unit_journal.specs.Stands.{Stands};
 ghost use Rattle.unit_journal.specs.Errors.{SaysFullToLay, OnRefusedToLay, CountsLay};
 
-use crate::record::{CLOSED, HEAD, head_of};
-use crate::{Full, Journal, LayError, Record};
-use drda_disk::{Disk, Region};
+use crate::record::{CLOSED, HEAD_BYTES, head_of};
+use crate::{Journal, LayError, Record};
+use drda_disk::{Disk, Full, Region};
 use std::alloc::{AllocError, Global};
 
 /// How many bytes records take that are laid one behind another, up to 2^64 - 1.
@@ -17,7 +18,9 @@ pub fn laid_len(records: &[Record]) -> usize
 {
     let mut sum = 0usize;
     for item in records {
-        sum = sum.saturating_add(HEAD).saturating_add(item.body.len());
+        sum = sum
+            .saturating_add(HEAD_BYTES)
+            .saturating_add(item.body.len());
     }
     sum
 }
@@ -25,7 +28,7 @@ pub fn laid_len(records: &[Record]) -> usize
 /// Puts a record behind other bytes, with an open gate.
 fn push_record(bytes: &mut Vec<u8>, item: &Record) -> Result<(), AllocError>
     requires { length item.now.body.items < 2 ^ 32 }
-    ensures { OnOk result (bytes.new.items ≡ bytes.old.items ++ 165 ∷ behind (entry_of item.now)) }
+    ensures { OnOk result (bytes.new.items ≡ bytes.old.items ++ open_gate ∷ behind (entry_of item.now)) }
 {
     bytes.extend_from_slice(&head_of(item.kind, item.body.len() as u32))?;
     bytes.extend_from_slice(&item.body)?;

@@ -13,12 +13,12 @@ mod open;
 mod record;
 mod staged;
 
-pub use errors::{AppendError, Full, LayError, OpenError};
+pub use errors::{LayError, OpenError};
 pub use journal::Journal;
 pub use kind::Kind;
 pub use laid_group::LaidGroup;
 pub use laid_record::LaidRecord;
 pub use laws::{a_region_has_one_reading, a_region_has_some_reading, stages_begin_and_end_at_rest};
 pub use lay::laid_len;
-pub use record::Record;
+pub use record::{HEAD_BYTES, Record};
 pub use staged::Staged;

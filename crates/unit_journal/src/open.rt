@@ -7,9 +7,9 @@ ghost use Rattle.unit_journal.specs.Record.{Entry};
 ghost use Rattle.unit_journal.specs.Stands.{Stands};
 ghost use Rattle.unit_journal.specs.Open.{ReadsNext, IsWhole, CountsOpen};
 
-use crate::record::{HEAD, OPEN};
+use crate::record::HEAD_BYTES;
 use crate::{Journal, Kind, OpenError, Record};
-use drda_disk::{Disk, Region, read_bytes};
+use drda_disk::{Disk, OPEN_GATE, Region, read_bytes};
 use std::alloc::Global;
 
 /// A number by its four bytes.
@@ -37,7 +37,7 @@ fn read_last_gate<D: Disk>(
 {
     let mut gate = [0u8; 1];
     disk.read_at(at, &mut gate)?;
-    if gate[0] != OPEN {
+    if gate[0] != OPEN_GATE {
         return Ok(None);
     }
     Err(OpenError::Damaged { at })
@@ -58,22 +58,22 @@ fn read_record<D: Disk>(
     ensures cause { CountsOpen result (D.life disk.old).faults (D.life disk.new).faults }
 {
     let room = limit - at - 1;
-    if room < HEAD {
+    if room < HEAD_BYTES {
         return read_last_gate(disk, at, limit);
     }
-    let mut head = [0u8; HEAD];
+    let mut head = [0u8; HEAD_BYTES];
     disk.read_at(at, &mut head)?;
-    if head[0] != OPEN {
+    if head[0] != OPEN_GATE {
         return Ok(None);
     }
     let Some(kind) = Kind::from_code(head[1]) else {
         return Err(OpenError::Damaged { at });
     };
     let len = number_of([head[2], head[3], head[4], head[5]]) as usize;
-    if len > room - HEAD {
+    if len > room - HEAD_BYTES {
         return Err(OpenError::Damaged { at });
     }
-    let body = read_bytes(alloc, disk, at + HEAD, len)?;
+    let body = read_bytes(alloc, disk, at + HEAD_BYTES, len)?;
     Ok(Some(Record { at, kind, body }))
 }
 
@@ -108,7 +108,7 @@ impl Journal {
         let mut records = Vec::new(alloc);
         let mut at = region.at;
         while let Some(record) = read_record(alloc, disk, at, limit)? {
-            at += HEAD + record.body.len();
+            at += HEAD_BYTES + record.body.len();
             records.push(record)?;
         }
         let journal = Journal {

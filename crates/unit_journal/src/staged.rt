@@ -3,15 +3,14 @@ ghost use Rattle.std.specs.Prelude.{◌≡◌, ◌+◌, ◌≤◌, ◌∷◌, []
 ghost use Rattle.drda_disk.specs.Region.{SameOutside, end_of};
 ghost use Rattle.drda_disk.specs.Disk.{LeavesOnly, Only, Stays, CountsFault};
 ghost use Rattle.unit_journal.specs.Adding.{MayAdd};
-ghost use Rattle.unit_journal.specs.Errors.{OnRefused};
+ghost use Rattle.drda_disk.specs.Errors.{OnFull};
 ghost use Rattle.unit_journal.specs.Journal.{IsSettled, held_of, room_of};
 ghost use Rattle.unit_journal.specs.LaidRecord.{entry_in};
 ghost use Rattle.unit_journal.specs.Record.{Entry, laid as spelled};
 ghost use Rattle.unit_journal.specs.Stands.{IsBeforeOrAfterAll};
 
-use crate::record::OPEN;
-use crate::{AppendError, Journal, LaidGroup, LaidRecord};
-use drda_disk::{Disk, DiskFault, Flushed, write_through};
+use crate::{Journal, LaidGroup, LaidRecord};
+use drda_disk::{Disk, DiskFault, Flushed, OPEN_GATE, WriteError, write_through};
 
 /// A journal, and behind its records a group that may have been laid ahead of being added, behind its own closed gate: a
 /// crash leaves nothing of it. So its body can be flushed from outside, and where the same records are added next, the gate
@@ -66,14 +65,14 @@ impl Staged {
         laid: &LaidRecord,
         hold: usize,
         release: usize,
-    ) -> Result<(), AppendError>
+    ) -> Result<(), WriteError>
         requires may { MayAdd (length (D.life disk.old).seen) (journal_of self.old) (6 + length (entry_in laid.now).body) hold release }
         ensures adds { AddsBehind D.is_modelled (D.life disk.old) (D.life disk.new) self.old self.new (entry_in laid.now ∷ []) (6 + length (entry_in laid.now).body) hold release result }
         ensures same { OnErr result (journal_of self.new ≡ journal_of self.old) }
-        ensures refused { OnRefused result ((self.new ≡ self.old) × (disk.new ≡ disk.old)) }
+        ensures refused { OnFull result ((self.new ≡ self.old) × (disk.new ≡ disk.old)) }
     {
         match self.journal.lacks(laid.bytes().len(), hold, release) {
-            Some(full) => return Err(AppendError::Full(full)),
+            Some(full) => return Err(WriteError::Full(full)),
             None => {}
         }
         self.rest(disk)?;
@@ -88,14 +87,14 @@ impl Staged {
         group: &LaidGroup,
         hold: usize,
         release: usize,
-    ) -> Result<(), AppendError>
+    ) -> Result<(), WriteError>
         requires may { MayAdd (length (D.life disk.old).seen) (journal_of self.old) (length (spelled group.now)) hold release }
         ensures adds { AddsBehind D.is_modelled (D.life disk.old) (D.life disk.new) self.old self.new group.now (length (spelled group.now)) hold release result }
         ensures same { OnErr result (journal_of self.new ≡ journal_of self.old) }
-        ensures refused { OnRefused result ((self.new ≡ self.old) × (disk.new ≡ disk.old)) }
+        ensures refused { OnFull result ((self.new ≡ self.old) × (disk.new ≡ disk.old)) }
     {
         match self.journal.lacks(group.len(), hold, release) {
-            Some(full) => return Err(AppendError::Full(full)),
+            Some(full) => return Err(WriteError::Full(full)),
             None => {}
         }
         if self.is_ahead(group) {
@@ -183,19 +182,19 @@ impl Staged {
         group: &LaidGroup,
         hold: usize,
         release: usize,
-    ) -> Result<(), AppendError>
+    ) -> Result<(), WriteError>
         requires ahead { ahead_of self.old ≡ group.now }
         requires inside { end_of (region_of self.old) ≤ length (D.life disk.old).seen }
         requires released { release ≤ held_of (journal_of self.old) }
         requires fits { length (spelled group.now) + hold ≤ room_of (journal_of self.old) + release }
         ensures adds { AddsBehind D.is_modelled (D.life disk.old) (D.life disk.new) self.old self.new group.now (length (spelled group.now)) hold release result }
         ensures same { OnErr result (journal_of self.new ≡ journal_of self.old) }
-        ensures failed { OnRefused result ⊥ }
+        ensures failed { OnFull result ⊥ }
     {
         let len = group.bytes().len();
         sync_unless(self.is_settled, disk)?;
         self.is_settled = true;
-        write_through(disk, self.journal.next, &[OPEN])?;
+        write_through(disk, self.journal.next, &[OPEN_GATE])?;
         self.journal = Journal {
             region: self.journal.region,
             next: self.journal.next + len,

@@ -12,14 +12,12 @@ ghost use Rattle.unit_records.specs.Room.{decision_taken, forgetting_taken, held
 
 use half_store::Layout;
 use tables::Change;
+use unit_journal::HEAD_BYTES;
 use unit_locks::Claim;
 use xa_calls::Xid;
 
 /// The bytes of a number of changes or claims.
 const COUNT_BYTES: usize = 4;
-
-/// The bytes of a record in front of its body: its gate, its kind and its length.
-const HEAD_BYTES: usize = 6;
 
 /// The byte that says how a branch was decided.
 const OUTCOME_BYTES: usize = 1;

@@ -14,7 +14,7 @@ returns-then-len-room-clause-next g c honest =
     let is : whole ≡ part image at 6 = c.in_ok-read_at.ensures.read honest in
     let gate = gate_at image whole at size is (omega (arith, c.requires.before, c.requires.inside)) in
     let len = len_is image (head_in image whole at size is) at refl (head_at image whole at size is) _ c.number_of-len.ensures.number in
-    (refl, gate ∙ c.if-head.false, inr (inl (omega (arith, len, c.if-len-room.true, c.if-room-lt-HEAD.false))))
+    (refl, gate ∙ c.if-head.false, inr (inl (omega (arith, len, c.if-len-room.true, c.if-room-lt-HEAD_BYTES.false))))
 
 pub returns-clause-next : goal.returns-clause-next
 returns-clause-next g c honest =
