@@ -25,6 +25,11 @@ impl Budget {
         }
     }
 
+    /// The bytes that are kept at each stage of a conversation.
+    pub(crate) fn least(&self) -> usize {
+        self.unopened.min(self.opened)
+    }
+
     /// The bytes that are kept at a stage of a conversation.
     pub(crate) fn at(&self, stage: Stage) -> usize {
         match stage {

@@ -6,7 +6,7 @@ use crate::exchange::{Exchanged, do_command};
 use crate::kept_cursors::KeptCursors;
 use crate::settling::settle;
 use crate::state::State;
-use crate::told::Told;
+use crate::told::{Told, UNTOLD};
 use command_kit::{Ask, Replies, Statements};
 use dss_frames::{Format, FrameFault, Segments, write_dss};
 use session_commands::{Session, Settings, fresh_session};
@@ -36,6 +36,8 @@ pub struct Front {
     segments: Segments,
     state: State,
     budget: Budget,
+    // Up to so many bytes of a command are kept whatever the budget has for its stage.
+    unasked: usize,
     // How many bytes of the command under way have come.
     kept: usize,
 }
@@ -72,6 +74,7 @@ impl Front {
             segments: Segments::new(alloc),
             state: fresh_state(alloc, usize::MAX),
             budget: Budget::unbounded(),
+            unasked: UNTOLD,
             kept: 0,
         })
     }
@@ -81,6 +84,7 @@ impl Front {
         ensures { self.new ≡ self.old }
     {
         self.budget = budget;
+        self.unasked = budget.least().min(UNTOLD);
         self.state.cursors.most = budget.cursor_bytes;
     }
 
@@ -130,15 +134,17 @@ impl Front {
         ensures far { IsUnfinished self.old.rest → (result ≡ 0) ⊎ GoesFar self.old.rest piece.now result }
         ensures closed { IsTrue self.old.session.is_closed → result ≡ 0 }
     {
-        if self.is_closed()
-            || self.kept > self.budget.at(self.state.session.stage)
-            || self.state.told.is_refused
-        {
+        if self.is_closed() || self.kept > self.unasked && self.is_full() {
             return 0;
         }
         let taken = self.segments.feed_command(piece);
-        self.kept = self.kept.saturating_add(taken);
+        self.kept = self.kept.wrapping_add(taken);
         taken
+    }
+
+    // Whether no more of a long command may be kept.
+    fn is_full(&self) -> bool {
+        self.kept > self.budget.at(self.state.session.stage) || self.state.told.is_refused
     }
 
     /// Does the next command, where all of it has come, asks `asker` what it asks for, and appends its

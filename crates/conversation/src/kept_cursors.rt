@@ -35,22 +35,26 @@ impl KeptCursors {
         }
     }
 
-    /// Whether none is kept, and none is being opened.
-    #[inline(always)]
-    pub(crate) fn is_idle(&self) -> bool {
-        !self.is_opening && self.cursors.is_empty()
-    }
-
     /// Lets a command be done. AllocError where it would open a cursor, and those that are open keep as much as they may already.
+    #[inline(always)]
     pub(crate) fn admit(
         &mut self,
         accepted: &Accepted<'_>,
         statements: &Statements,
     ) -> Result<(), AllocError> {
-        self.is_opening = matches!(accepted.command, Command::Opnqry);
-        if !self.is_opening {
-            return Ok(());
+        match accepted.command {
+            Command::Opnqry => self.begin(accepted, statements),
+            _ => Ok(()),
         }
+    }
+
+    // A cursor is being opened.
+    fn begin(
+        &mut self,
+        accepted: &Accepted<'_>,
+        statements: &Statements,
+    ) -> Result<(), AllocError> {
+        self.is_opening = true;
         self.forget_ended(statements);
         if self.bytes() >= self.most {
             return Err(AllocError);
@@ -63,10 +67,15 @@ impl KeptCursors {
     }
 
     /// The command was done: a cursor that it has opened, and that has rows left, is counted from now on.
+    #[inline(always)]
     pub(crate) fn note(&mut self, alloc: Global, statements: &Statements) {
-        if !self.is_opening {
-            return;
+        if self.is_opening {
+            self.note_opened(alloc, statements);
         }
+    }
+
+    // The cursor that was being opened is counted where it has rows left.
+    fn note_opened(&mut self, alloc: Global, statements: &Statements) {
         if let Ok(block) = statements
             .sections
             .next_block(&self.section, None, SHORTEST)

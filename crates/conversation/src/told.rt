@@ -5,7 +5,7 @@ ghost use Rattle.std.specs.Prelude.{◌≡◌};
 use command_kit::Ask;
 
 /// So many bytes of a command are kept untold, and as many that come at once behind them.
-const UNTOLD: usize = 65_536;
+pub(crate) const UNTOLD: usize = 65_536;
 
 /// Of more the bytes are told by so many.
 const STEP: usize = 262_144;
@@ -30,10 +30,10 @@ impl Told {
         }
     }
 
-    /// Whether nothing was told, and nothing refused.
+    /// Whether whoever is asked knows of nothing that is kept.
     #[inline(always)]
     pub(crate) fn is_nothing(&self) -> bool {
-        self.command == 0 && self.rows == 0 && !self.is_refused
+        self.command == 0 && self.rows == 0
     }
 
     /// Whether the command under way is long.
