@@ -7,7 +7,7 @@ use Rattle.std.proofs.Math.Seq.{take-append_seam}
 use Rattle.std.proofs.lemmas.List.{length-replicate}
 use Rattle.row_pages.specs.Filling.{IsFilled}
 use Rattle.row_pages.specs.Keeping.{KeepsPage, page_with}
-use Rattle.row_pages.specs.Page.{IsPage, Page, code_of, bytes_of, row_bytes, rows_bytes}
+use Rattle.row_pages.specs.Page.{IsPage, Page, code_of, row_bytes, rows_bytes, written_page}
 use Rattle.row_pages.specs.Reading.{rows_in}
 use Rattle.row_pages.specs.declared.page.PageKind.{PageKind}
 use Rattle.row_pages.proofs.Placed.{rows_count}
@@ -60,7 +60,7 @@ module _ (kind : PageKind) (starts : List ℕ) (end n : ℕ) (old new : Vec ℕ)
   whole =
       let laid = rows_bytes rows in
       let zeros : List ℕ = replicate (8189 - length laid) 0 in
-      let long : length (bytes_of (page_with (kind, length starts) old.items)) ≡ 8192 = omega (
+      let long : length (written_page (page_with (kind, length starts) old.items)) ≡ 8192 = omega (
         arith,
         length-replicate {A = ℕ} (8189 - length laid) 0,
         length-append (to_be_bytes w16 (length rows)) (laid ++ zeros),

@@ -27,10 +27,10 @@ rows_bytes (row ∷ rows) = row_bytes row ++ rows_bytes rows
 abbrev pub Fits : List (List ℕ) → Type 0
 Fits rows = 3 + length (rows_bytes rows) ≤ page_bytes
 
-abbrev pub bytes_of : Page → List ℕ
-bytes_of p = code_of p.kind ∷ (to_be_bytes w16 (length p.rows) ++ (rows_bytes p.rows ++ replicate (8189 - length (rows_bytes p.rows)) 0))
+abbrev pub written_page : Page → List ℕ
+written_page p = code_of p.kind ∷ (to_be_bytes w16 (length p.rows) ++ (rows_bytes p.rows ++ replicate (8189 - length (rows_bytes p.rows)) 0))
 
 -- bytes are that page
 pub record IsPage (page : Page) (bytes : List ℕ) : Type 0 where
   pub fits : Fits page.rows
-  pub same : bytes ≡ bytes_of page
+  pub same : bytes ≡ written_page page
