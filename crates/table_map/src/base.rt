@@ -27,6 +27,7 @@ pub(crate) struct RowsLeft {
 
 impl Model for RowsLeft {
     ghost use Rattle.std.specs.Prelude.{◌+◌, ◌*◌, ◌^◌, ◌≤◌, drop};
+    ghost use Rattle.drda_disk.specs.Layout.{page_bytes};
     ghost use Rattle.table_map.specs.Walk.{PagesLeft, last_of, page_rows};
 
     ghost Value = { PagesLeft };

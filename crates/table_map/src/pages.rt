@@ -31,6 +31,7 @@ pub struct TablePages {
 
 impl Model for TablePages {
     ghost use Rattle.std.specs.Prelude.{◌+◌, ◌*◌, ◌^◌, ◌≤◌, map, length};
+    ghost use Rattle.drda_disk.specs.Layout.{page_bytes};
     ghost use Rattle.table_map.specs.Stored.{Places};
 
     ghost Value = { Places };
