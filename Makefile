@@ -37,6 +37,7 @@ names:
 	@tools/check_refusals
 	@tests/gate/planted_refusals
 	@tests/gate/planted_pages
+	@tests/gate/planted_changes
 	@tests/gate/gate_conversations --check
 	@tests/gate/core_stories --check
 

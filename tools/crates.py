@@ -2,6 +2,8 @@
 gate tries under crates/NAME/must-fail/, the others beside them under crates/NAME/edits/."""
 import os, re, subprocess
 
+from faces import changes, laws_in
+
 TOP = os.path.realpath(os.path.join(os.path.dirname(__file__), ".."))
 # What every verdict rests on: the handles that are allowed, and the logic.
 WHOLE = "HANDLES", ".ci/logic"
@@ -41,9 +43,43 @@ def folders_of(name):
     return f"crates/{name}/{OF_GATE}", f"crates/{name}/{OTHERS}"
 
 
+def text_at(commit, file):
+    return git("show", f"{commit}:{file}") or ""
+
+
+def sources(commit):
+    """The texts of all files of src/ at a commit, one behind another."""
+    return git("grep", "-h", "-e", "fn ", commit, "--", "crates/*/src/*.rt") or ""
+
+
+def changed_in(base, files):
+    """The crates whose code or statements changed in these files since the commit, and those of them whose face did (faces.py)."""
+    laws = laws_in(sources(base)) | laws_in(sources("HEAD"))
+    changed, faces = set(), set()
+    for file in files:
+        parts = file.split("/")
+        if parts[0] != "crates" or len(parts) < 4 or file.endswith(".md") or edit_of(file) or parts[2] == "proofs":
+            continue
+        is_changed, is_face = changes(file, text_at(base, file), text_at("HEAD", file), laws)
+        changed |= {parts[1]} if is_changed else set()
+        faces |= {parts[1]} if is_face else set()
+    return changed, faces
+
+
+def above(names, crates):
+    """These crates, and those that stand on one of them."""
+    found, grown = set(names), True
+    while grown:
+        more = {name for name, below in crates.items() if found.intersection(below)} - found
+        found |= more
+        grown = bool(more)
+    return found
+
+
 def touched(base, kinds):
-    """The crates that are changed since the commit, or stand on one that is; all of them where that can't be said. A page of a
-    crate changes nothing of it. One of which only an edit is changed counts where edits of that kind are asked for, and those above it do not."""
+    """The crates whose edits something since the commit can concern: those whose code or statements changed, and those that stand on
+    one whose face changed (faces.py); all of them where that can't be said. One of which an edit is changed counts too, where edits of
+    that kind are asked for."""
     crates = crates_now()
     files = git("diff", "--no-renames", "--name-only", base, "HEAD") if git("merge-base", "--is-ancestor", base, "HEAD") is not None else None
     if files is None or logic_of(subprocess.run(["rt", "version"], capture_output=True, text=True).stdout) != logic_of(git("show", f"{base}:.ci/logic") or ""):
@@ -52,15 +88,10 @@ def touched(base, kinds):
     if any(file in WHOLE for file in files):
         return set(crates)
     before = libraries(git("show", f"{base}:crates.txt") or "")
-    found = {file.split("/")[1] for file in files if file.startswith("crates/") and not file.endswith(".md") and not edit_of(file)}
-    found |= {name for name in crates if sorted(crates[name]) != sorted(before.get(name, ["none"]))}
-    grown = True
-    while grown:
-        more = {name for name, below in crates.items() if found.intersection(below)} - found
-        found |= more
-        grown = bool(more)
+    changed, faces = changed_in(base, files)
+    others = {name for name in crates if sorted(crates[name]) != sorted(before.get(name, ["none"]))}
     edited = [edit_of(file) for file in files if edit_of(file) and os.path.exists(f"{TOP}/{file}")]
-    return (found | {name for kind, name in edited if kind in kinds}) & set(crates)
+    return (changed | above(faces | others, crates) | {name for kind, name in edited if kind in kinds}) & set(crates)
 
 
 def edits_in(folder):

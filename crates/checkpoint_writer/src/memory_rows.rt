@@ -16,7 +16,6 @@ use crate::merging::TableWriter;
 use drda_disk::Disk;
 use half_store::ImageWriter;
 use key_map::Rows;
-use row_pages::one_laying;
 use std::alloc::Global;
 use table_map::TablePages;
 
@@ -44,7 +43,7 @@ pub fn write_rows<D: Disk>(
     ensures damaged { DamagedWhere (AllByRecursion IsShort (without_keys (rows_left rows.entry)) → ⊥) result }
     ensures cause { CountsImage result (D.life disk.old).faults (D.life disk.new).faults }
 {
-    one_laying();
+    row_pages::laws::one_laying();
     let at = image.finish_pages().at;
     let mut left = rows;
     let mut writer = TableWriter::new(alloc)?;

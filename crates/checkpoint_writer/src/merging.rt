@@ -15,8 +15,7 @@ use crate::rows::RowWriter;
 use crate::steps::Merging;
 use drda_disk::Disk;
 use half_store::ImageWriter;
-use key_map::laws::changes_win;
-use row_pages::{KeptPage, PageKind, one_laying};
+use row_pages::{KeptPage, PageKind};
 use std::alloc::{AllocError, Global};
 use table_map::{NotedPages, NotedRows, RowKeys, TableMap, TablePages};
 
@@ -146,13 +145,13 @@ impl TableWriter {
     }
 }
 
-/// Writes all rows of a table, in the order of their keys, into pages behind those that the image has,
-/// so that a page ends only where the next row does not fit. A page of which no row has changed is copied
-/// whole, where its first row begins a page. No rows take no page. Where the pages lie then is returned, with the key of each one's first row, and the rows are noted beside it.
+/// Writes all rows of a table, in the order of their keys, into pages behind those that the image has, so that a page ends only where the
+/// next row does not fit. A page of which no row has changed is copied whole, where its first row begins a page. No rows take no page.
+/// Where the pages lie then is returned, with the key of each one's first row, and the rows are noted beside it.
 ///
-/// `Full` is told only where the half has no room for all of the pages and a gate behind them. Of a
-/// table whose pages stand there `Damaged` is told only where one of all rows is too long for a page;
-/// of another one where a page that is read is none or has no rows, too. After a fault some of the pages may have been written. At any moment the active half stays what it is.
+/// `Full` is told only where the half has no room for all of the pages and a gate behind them. Of a table whose pages stand there `Damaged`
+/// is told only where one of all rows is too long for a page; of another one where a page that is read is none or has no rows, too. After a
+/// fault some of the pages may have been written. At any moment the active half stays what it is.
 pub fn merge_into<K: RowKeys, D: Disk>(
     alloc: Global,
     keys: &K,
@@ -178,8 +177,8 @@ pub fn merge_into<K: RowKeys, D: Disk>(
         → DamagedWhere (AllByRecursion IsShort (without_keys (rows_of_table (K.key_of keys.now) table.now pages)) → ⊥) result }
     ensures cause { CountsImage result (D.life disk.old).faults (D.life disk.new).faults }
 {
-    one_laying();
-    changes_win();
+    row_pages::laws::one_laying();
+    key_map::laws::changes_win();
     let at = image.finish_pages().at;
     let mut merging = Merging {
         cursor: table.rows(),

@@ -11,7 +11,7 @@ ghost use Rattle.checkpoint_writer.specs.ReadCatalogue.{CountsCatalogue, ReadsBy
 use crate::StoredTable;
 use crate::entry::read_entry;
 use drda_disk::{Disk, PAGE_BYTES};
-use row_pages::{KeptPage, PageFault, PageKind, Pager, one_laying, one_page};
+use row_pages::{KeptPage, PageFault, PageKind, Pager};
 use row_values::ReadError;
 use std::alloc::Global;
 use thiserror::Error;
@@ -66,7 +66,7 @@ fn push_page(
     ensures told { (bytes : List ℕ) → IsPage page.now bytes → ReadsBytes bytes at tables.old.items result tables.new.items }
     ensures cause { (n : ℕ) → CountsCatalogue result n n }
 {
-    one_page();
+    row_pages::laws::one_page();
     if page.page_ref().kind() != PageKind::Catalogue {
         return Err(CatalogueError::Damaged { at });
     }
@@ -125,5 +125,5 @@ pub fn read_catalogue<D: Disk>(
 pub fn catalogues_are_read()
     ensures { CatalogueIsRead }
 {
-    one_laying();
+    row_pages::laws::one_laying();
 }

@@ -100,8 +100,8 @@ fn tell_found(
     writeln!(out, "  {done:?}, {found:?}")
 }
 
-/// Tells what comes of a switch over a device that fails behind so many calls, with so many bytes held back, and what a crash of a pick leaves
-/// then; in front of `either` only whether that is the old half or the new one.
+/// Tells what comes of a switch over a device that fails behind so many calls, with so many bytes held back, and what a crash of a pick
+/// leaves then; in front of `either` only whether that is the old half or the new one.
 pub fn tell_switched(alloc: Global, asked: &str, out: &mut String) -> Result<(), AllocError> {
     let [calls, held, pick] = numbers(asked);
     let (mut disk, active) = new_store(alloc, calls)?;

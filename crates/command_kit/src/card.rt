@@ -6,7 +6,7 @@ ghost use Rattle.command_kit.specs.Reply as spec;
 
 use crate::reply_text::ReplyText;
 use core_calls::SqlFault;
-use sqlam_replies::{ReplyKind, null_sqlcard, sqlcard, texts_have_lengths};
+use sqlam_replies::{ReplyKind, null_sqlcard, sqlcard};
 use std::alloc::AllocError;
 
 /// An SQLCARD, of at most `SQLCARD_LENGTH` bytes.
@@ -26,7 +26,7 @@ fn write_card(out: &mut Vec<u8>, code: i32, state: &[u8; 5], count: u32) -> Resu
     ensures full { OnErr result (vec_capacity out.old < vec_len out.old + 65) }
     ensures capacity { vec_capacity out.old ≤ vec_capacity out.new }
 {
-    texts_have_lengths();
+    sqlam_replies::laws::texts_have_lengths();
     sqlcard(out, code, state, count)
 }
 
@@ -48,7 +48,7 @@ fn write_null(out: &mut Vec<u8>) -> Result<(), AllocError>
     ensures full { OnErr result (vec_capacity out.old < vec_len out.old + 65) }
     ensures capacity { vec_capacity out.old ≤ vec_capacity out.new }
 {
-    texts_have_lengths();
+    sqlam_replies::laws::texts_have_lengths();
     null_sqlcard(out)
 }
 

@@ -9,7 +9,7 @@ ghost use Rattle.command_kit.specs.Reply as spec;
 use crate::reply_text::ReplyText;
 use core_calls::OutputColumns;
 use row_values::Column;
-use sqlam_replies::{ReplyKind, selected_sqldard, sqldard, texts_have_lengths};
+use sqlam_replies::{ReplyKind, selected_sqldard, sqldard};
 use std::alloc::AllocError;
 
 /// The SQLDARD of columns, at most 128, with names of at most 30 bytes: of at most `MAX_SQLDARD_LENGTH` bytes.
@@ -36,7 +36,7 @@ impl<'a> ReplyText for ColumnDescription<'a> {
     }
 
     fn write(&self, out: &mut Vec<u8>) -> Result<(), AllocError> {
-        texts_have_lengths();
+        sqlam_replies::laws::texts_have_lengths();
         sqldard(out, self.unicode, self.columns)
     }
 }
@@ -65,7 +65,7 @@ impl<'a> ReplyText for SelectionDescription<'a> {
     }
 
     fn write(&self, out: &mut Vec<u8>) -> Result<(), AllocError> {
-        texts_have_lengths();
+        sqlam_replies::laws::texts_have_lengths();
         let columns = self.columns;
         selected_sqldard(out, self.unicode, columns.schema(), columns.selected())
     }

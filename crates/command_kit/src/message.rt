@@ -5,7 +5,7 @@ ghost use Rattle.sqlam_replies.specs.Message.{has_short_values, message_of};
 ghost use Rattle.sqlam_replies.specs.Reply as texts;
 
 use crate::reply_text::ReplyText;
-use sqlam_replies::{ReplyKind, ReplyMessage, reply_message, texts_have_lengths};
+use sqlam_replies::{ReplyKind, ReplyMessage, reply_message};
 use std::alloc::AllocError;
 
 /// Of at most `MAX_MESSAGE_LENGTH` bytes, where its names have at most 791.
@@ -25,7 +25,7 @@ impl<'a> ReplyText for ReplyMessage<'a> {
     }
 
     fn write(&self, out: &mut Vec<u8>) -> Result<(), AllocError> {
-        texts_have_lengths();
+        sqlam_replies::laws::texts_have_lengths();
         reply_message(out, *self)
     }
 }

@@ -3,7 +3,6 @@
 use crate::head::Head;
 use crate::reply_list::ReplyList;
 use crate::reply_text::ReplyText;
-use crate::sizes::replies_add_up;
 use std::alloc::{AllocError, Global};
 use std::marker::Model;
 
@@ -84,7 +83,7 @@ impl Replies {
         ensures size { written_lengths self.new.list ≤ written_lengths self.old.list + written_length (T.most reply.now) }
         ensures short { T.most reply.now ≤ first_size → written_lengths self.new.list ≤ written_lengths self.old.list + (6 + T.most reply.now) }
     {
-        replies_add_up();
+        crate::laws::replies_add_up();
         let start = self.text.len();
         match reply.write(&mut self.text) {
             Ok(()) => {}

@@ -182,10 +182,6 @@ some_are p h =
 
 -- ---- what is read of the bytes that write parts
 
-false_and : (a b : Bool) → b ≡ false → (a && b) ≡ false
-false_and true b h = h
-false_and false b h = refl
-
 -- where a test fails, so does one that asks more
 fails : (a b c d e f : Bool) → (b && (c && (d && e))) ≡ false → (a && (b && (c && (d && (e && f))))) ≡ false
 fails true true true true true f h = absurd cc
@@ -208,12 +204,6 @@ read_by p false test format_fits global_fits branch_fits =
 
 pub read_as : (p : Parts) → p.format < 2 ^ 32 → length p.global < 2 ^ 32 → length p.branch < 2 ^ 32 → xid_in (wire p) ≡ xid_of p
 read_as p format_fits global_fits branch_fits = read_by p (are_parts p) refl format_fits global_fits branch_fits
-
-pub too_long_global : (p : Parts) → 2 ^ 32 ≤ length p.global → None ≡ xid_of p
-too_long_global p h = grind (arith, nat_tests)
-
-pub too_long_branch : (p : Parts) → 2 ^ 32 ≤ length p.branch → None ≡ xid_of p
-too_long_branch p h = grind (arith, nat_tests)
 
 -- ---- the laws
 
@@ -273,12 +263,4 @@ printed xid bytes whole =
 pub one_word : (text format rest global branch : List ℕ) → Some (format, rest) ≡ split_at_colon text → Some (global, branch) ≡ split_at_colon rest → xid_said format global branch ≡ xid_in_one text
 one_word text format rest global branch first second =
     ap (λ (o : Option (List ℕ × List ℕ)). option_and_then (λ (b : List ℕ × List ℕ). xid_said format b.0 b.1) o) second
-    ∙ ap (λ (o : Option (List ℕ × List ℕ)). option_and_then (λ (f : List ℕ × List ℕ). option_and_then (λ (b : List ℕ × List ℕ). xid_said f.0 b.0 b.1) (split_at_colon f.1)) o) first
-
-pub no_colon : (text : List ℕ) → None ≡ split_at_colon text → None ≡ xid_in_one text
-no_colon text none = ap (λ (o : Option (List ℕ × List ℕ)). option_and_then (λ (f : List ℕ × List ℕ). option_and_then (λ (b : List ℕ × List ℕ). xid_said f.0 b.0 b.1) (split_at_colon f.1)) o) none
-
-pub one_colon : (text format rest : List ℕ) → Some (format, rest) ≡ split_at_colon text → None ≡ split_at_colon rest → None ≡ xid_in_one text
-one_colon text format rest first none =
-    ap (λ (o : Option (List ℕ × List ℕ)). option_and_then (λ (b : List ℕ × List ℕ). xid_said format b.0 b.1) o) none
     ∙ ap (λ (o : Option (List ℕ × List ℕ)). option_and_then (λ (f : List ℕ × List ℕ). option_and_then (λ (b : List ℕ × List ℕ). xid_said f.0 b.0 b.1) (split_at_colon f.1)) o) first

@@ -4,7 +4,6 @@ ghost use Rattle.std.specs.Prelude.{◌≡◌};
 ghost use Rattle.conversation.specs.Access as spec;
 
 use drda_commands::Stage;
-use session_commands::AtOnce;
 
 /// How far a conversation has come towards the database.
 #[derive(Clone, Copy)]
@@ -37,10 +36,7 @@ pub(crate) fn is_opened(stage: Stage) -> bool
     }
 }
 
-/// How many checks have failed, behind what left this stage. One whose answer found no memory counts as failed.
-pub(crate) fn refused_behind(refused: u64, what: AtOnce, stage: Stage) -> u64 {
-    match what {
-        AtOnce::Secchk => refused.saturating_add(u64::from(!is_checked(stage))),
-        _ => refused,
-    }
+/// How many checks have failed, behind one that leaves this stage.
+pub(crate) fn refused_behind(refused: u64, stage: Stage) -> u64 {
+    refused.saturating_add(u64::from(!is_checked(stage)))
 }

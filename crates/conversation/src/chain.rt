@@ -9,7 +9,7 @@ ghost use Rattle.command_kit.specs.Sizes.{written_lengths};
 ghost use Rattle.conversation.specs.Exchange as spec;
 
 use command_kit::ReplyList;
-use dss_frames::{Dss, Format, Group, write_dss, written_dss_is_read};
+use dss_frames::{Dss, Format, Group, write_dss};
 use session_commands::Session;
 use sqlam_replies::ReplyKind;
 
@@ -131,7 +131,7 @@ fn append_dss(out: &mut Vec<u8>, format: Format, correlator: u16, contents: &[u8
     ensures len { vec_len out.new ≡ vec_len out.old + written_length (length contents.now) }
     ensures capacity { vec_capacity out.old ≤ vec_capacity out.new }
 {
-    written_dss_is_read();
+    dss_frames::laws::written_dss_is_read();
     match write_dss(out, format, correlator, contents) {
         Ok(()) => {}
         Err(_) => unreachable!(),

@@ -18,7 +18,7 @@ use crate::database::do_on_database;
 use crate::sizes::most_length;
 use crate::state::State;
 use command_kit::Ask;
-use drda_commands::{Accepted, Given, Refusal, judge};
+use drda_commands::{Accepted, Given, Refusal, Stage, judge};
 use drda_names::push_padded;
 use dss_frames::{Format, Group, OpenedDss, close_dss, open_dss};
 use session_commands::{Answer, AtOnce, Settings, answered_at_once, refused};
@@ -118,7 +118,9 @@ fn run<A: Ask>(
     let unicode = state.session.agreed.unicode;
     write_database_name(settings, unicode, &mut state.database_name)?;
     state.replies.clear();
-    state.cursors.admit(&accepted, &state.statements)?;
+    state
+        .cursors
+        .admit(&accepted, &state.statements, &mut state.told)?;
     out.reserve(most_length(&accepted, &state.statements))?;
     do_on_database(
         alloc,
@@ -129,11 +131,13 @@ fn run<A: Ask>(
         asker,
         &mut state.replies,
     )?;
-    state.cursors.note(alloc, &state.statements);
-    let replies = state.replies.as_list();
-    let session = behind(state.session, link, worst(replies));
+    let severity = worst(state.replies.as_list());
+    state
+        .cursors
+        .note(alloc, &accepted, &state.statements, severity);
+    let session = behind(state.session, link, severity);
     let is_chained = link.is_chained && !session.is_broken;
-    append_replies(out, link.correlator, is_chained, replies);
+    append_replies(out, link.correlator, is_chained, state.replies.as_list());
     state.session = session;
     state.replies.clear();
     Ok(())
@@ -164,6 +168,17 @@ fn refuse(
     }
 }
 
+// Counts a check of the user that has failed, where the command is one and leaves this stage.
+#[inline(always)]
+fn count_check(state: &mut State, what: AtOnce, stage: Stage)
+    ensures session { state.new.session ≡ state.old.session }
+    ensures statements { state.new.statements ≡ state.old.statements }
+{
+    if let AtOnce::Secchk = what {
+        state.refused = refused_behind(state.refused, stage);
+    }
+}
+
 // Answers a command that the core is not asked for. Out of memory nothing is appended.
 #[inline(always)]
 fn tell(
@@ -183,9 +198,8 @@ fn tell(
     let dss = open_dss(out)?;
     match answered_at_once(settings, state.session, what, given, out) {
         Ok(answer) => {
-            let told = send_one(state, answer, link, dss, out);
-            state.refused = refused_behind(state.refused, what, state.session.stage);
-            told
+            count_check(state, what, answer.session.stage);
+            send_one(state, answer, link, dss, out)
         }
         Err(error) => {
             out.truncate(dss.at);

@@ -12,7 +12,6 @@ use crate::ahead::begins_with_end;
 use crate::fed::{Fed, FedState, Heard, HeardSome};
 use crate::front::{Front, Need};
 use command_kit::Ask;
-use dss_frames::stays_read;
 
 /// Gives a conversation bytes, does each command that is whole, and appends its replies to `out`. All bytes
 /// are taken where the conversation stays open; none where it was closed before. No bytes behind the command
@@ -23,7 +22,7 @@ pub fn feed<A: Ask>(front: &mut Front, asker: &mut A, piece: &[u8], out: &mut Ve
     ensures settings { front.new.settings ≡ front.old.settings }
     ensures takes { Takes A.asks front.old.settings (attended_by front.old asker.old) piece.now out.old.items result (attended_by front.new asker.new) out.new.items }
 {
-    stays_read();
+    dss_frames::laws::stays_read();
     if front.is_closed() {
         return Fed {
             taken: 0,
@@ -84,7 +83,7 @@ pub fn feed_some<A: Ask>(
     ensures goes_on { result.heard ≡ heard_as.Open → 1 ≤ length piece.now → 1 ≤ result.taken }
     ensures all { result.heard ≡ heard_as.Open → (result.taken ≡ length piece.now) ⊎ (most < vec_len out.new) }
 {
-    stays_read();
+    dss_frames::laws::stays_read();
     let mut at = 0;
     'feeding: loop {
         let Ok(()) = out.reserve(21) else {
@@ -131,7 +130,7 @@ fn hand_on<A: Ask>(front: &mut Front, asker: &mut A, piece: &[u8], out: &mut Vec
     ensures moves { result.state ≡ state.Open → 1 ≤ length piece.now → 1 ≤ result.taken }
     ensures stuck { result.state ≡ state.Later → result.taken ≡ 0 }
 {
-    stays_read();
+    dss_frames::laws::stays_read();
     let taken = front.feed_command(piece);
     let need = next_before(front, asker, &piece[taken..], out);
     Fed {
@@ -146,7 +145,9 @@ fn next_before<A: Ask>(front: &mut Front, asker: &mut A, behind: &[u8], out: &mu
     requires room { vec_len out.old + 21 ≤ vec_capacity out.old }
     ensures { Steps A.asks front.old asker.old out.old.items result front.new asker.new out.new.items }
 {
-    asker.expect_end(begins_with_end(behind));
+    if front.may_ask() {
+        asker.expect_end(begins_with_end(behind));
+    }
     front.next(asker, out)
 }
 

@@ -142,6 +142,12 @@ impl Front {
         taken
     }
 
+    /// Whether a command may ask: the database is open.
+    #[inline(always)]
+    pub(crate) fn may_ask(&self) -> bool {
+        is_opened(self.state.session.stage)
+    }
+
     // Whether no more of a long command may be kept.
     fn is_full(&self) -> bool {
         self.kept > self.budget.at(self.state.session.stage) || self.state.told.is_refused

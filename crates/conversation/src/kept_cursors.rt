@@ -1,6 +1,6 @@
 //! How much the open cursors of a conversation keep.
 
-use crate::measure::row_bytes;
+use crate::told::Told;
 use command_kit::Statements;
 use drda_commands::{Accepted, Command};
 use std::alloc::{AllocError, Global};
@@ -19,7 +19,7 @@ struct KeptCursor {
 pub(crate) struct KeptCursors {
     pub(crate) most: usize,
     cursors: Vec<KeptCursor>,
-    // The section whose cursor is being opened, if one is.
+    // Room for the name of the section whose cursor is being opened.
     section: Vec<u8>,
     pub(crate) is_opening: bool,
 }
@@ -41,46 +41,48 @@ impl KeptCursors {
         &mut self,
         accepted: &Accepted<'_>,
         statements: &Statements,
+        told: &mut Told,
     ) -> Result<(), AllocError> {
         match accepted.command {
-            Command::Opnqry => self.begin(accepted, statements),
+            Command::Opnqry => {
+                told.is_due = true;
+                self.begin(statements)
+            }
             _ => Ok(()),
         }
     }
 
-    // A cursor is being opened.
-    fn begin(
-        &mut self,
-        accepted: &Accepted<'_>,
-        statements: &Statements,
-    ) -> Result<(), AllocError> {
+    // A cursor is being opened. Room to count it is made before.
+    fn begin(&mut self, statements: &Statements) -> Result<(), AllocError> {
         self.is_opening = true;
         self.forget_ended(statements);
         if self.bytes() >= self.most {
             return Err(AllocError);
         }
-        self.section.clear();
-        self.section
-            .extend_from_slice(accepted.section().unwrap_or(&[]))?;
+        self.section.reserve(LONGEST_NAME)?;
         self.cursors.reserve(1)?;
         Ok(())
     }
 
-    /// The command was done: a cursor that it has opened, and that has rows left, is counted from now on.
+    /// The command was done, with replies of this severity: a cursor that it has opened, and that has rows left, is counted from now
+    /// on. Where none has, ENDQRYRM or a refusal says so, of a greater severity than 0.
     #[inline(always)]
-    pub(crate) fn note(&mut self, alloc: Global, statements: &Statements) {
-        if self.is_opening {
-            self.note_opened(alloc, statements);
+    pub(crate) fn note(
+        &mut self,
+        alloc: Global,
+        accepted: &Accepted<'_>,
+        statements: &Statements,
+        severity: u16,
+    ) {
+        if self.is_opening && severity == 0 {
+            self.note_opened(alloc, accepted.section().unwrap_or(&[]), statements);
         }
     }
 
-    // The cursor that was being opened is counted where it has rows left.
-    fn note_opened(&mut self, alloc: Global, statements: &Statements) {
-        if let Ok(block) = statements
-            .sections
-            .next_block(&self.section, None, SHORTEST)
-        {
-            self.put(alloc, row_bytes(block.rows));
+    // The cursor of a section is counted where it has rows left.
+    fn note_opened(&mut self, alloc: Global, section: &[u8], statements: &Statements) {
+        if let Ok(block) = statements.sections.next_block(section, None, SHORTEST) {
+            self.put(alloc, section, block.rows.memory());
         }
     }
 
@@ -99,18 +101,25 @@ impl KeptCursors {
             .retain(|kept| is_open(statements, &kept.section));
     }
 
-    // The section's cursor keeps so many.
-    fn put(&mut self, alloc: Global, bytes: usize) {
+    // The section's cursor keeps so many. There is room for its name.
+    fn put(&mut self, alloc: Global, section: &[u8], bytes: usize) {
         for kept in self.cursors.iter_mut() {
-            if kept.section.as_slice() == self.section.as_slice() {
+            if kept.section.as_slice() == section {
                 kept.bytes = bytes;
                 return;
             }
         }
-        let section = std::mem::replace(&mut self.section, Vec::new(alloc));
-        let _ = self.cursors.push(KeptCursor { section, bytes });
+        let mut name = std::mem::replace(&mut self.section, Vec::new(alloc));
+        let _ = name.extend_from_slice(section);
+        let _ = self.cursors.push(KeptCursor {
+            section: name,
+            bytes,
+        });
     }
 }
+
+// The most bytes of a section's name (PKGNAMCSN).
+const LONGEST_NAME: usize = 791;
 
 // The shortest block: it is asked for where nothing is sent.
 const SHORTEST: Option<u32> = Some(1);

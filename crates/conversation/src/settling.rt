@@ -8,8 +8,8 @@ use command_kit::Ask;
 use dss_frames::Segments;
 use std::alloc::Global;
 
-/// Behind a command: where something was told, or a cursor was being opened, the memory of a long command is given back, and whoever is asked
-/// is told what is kept. Cursors that stay open keep rows, of which was told.
+/// Behind a command: where something was told, or a cursor was being opened, the memory of a long command is given back, and whoever is
+/// asked is told what is kept. Cursors that stay open keep rows, of which was told.
 #[inline(always)]
 pub(crate) fn settle<A: Ask>(
     alloc: Global,
@@ -21,7 +21,7 @@ pub(crate) fn settle<A: Ask>(
     ensures at_fault { segments.new.at_fault ≡ segments.old.at_fault }
     ensures standing { standing_of state.new asker.new ≡ standing_of state.old asker.old }
 {
-    if state.told.is_nothing() && !state.cursors.is_opening {
+    if !state.told.is_due {
         return;
     }
     if state.told.is_long() {

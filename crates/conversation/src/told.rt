@@ -10,14 +10,16 @@ pub(crate) const UNTOLD: usize = 65_536;
 /// Of more the bytes are told by so many.
 const STEP: usize = 262_144;
 
-/// How many bytes whoever is asked was told that a conversation keeps: of the command under way, where that is long, and of rows for its open
-/// cursors. No clause speaks of it: what is refused then is refused as memory is.
+/// How many bytes whoever is asked was told that a conversation keeps: of the command under way, where that is long, and of rows for its
+/// open cursors. No clause speaks of it: what is refused then is refused as memory is.
 #[derive(Clone, Copy)]
 pub(crate) struct Told {
     command: usize,
     rows: usize,
     /// No more of the command under way may be kept.
     pub(crate) is_refused: bool,
+    /// Something was told, or a cursor is being opened: behind the command it is to be settled.
+    pub(crate) is_due: bool,
 }
 
 impl Told {
@@ -27,13 +29,8 @@ impl Told {
             command: 0,
             rows: 0,
             is_refused: false,
+            is_due: false,
         }
-    }
-
-    /// Whether whoever is asked knows of nothing that is kept.
-    #[inline(always)]
-    pub(crate) fn is_nothing(&self) -> bool {
-        self.command == 0 && self.rows == 0
     }
 
     /// Whether the command under way is long.
@@ -55,6 +52,7 @@ impl Told {
     fn grow<A: Ask>(&mut self, asker: &mut A, kept: usize)
         ensures { asker.new ≡ asker.old }
     {
+        self.is_due = true;
         let coming = kept.saturating_add(UNTOLD);
         if coming > self.command {
             let command = coming.saturating_add(STEP) / STEP * STEP;
@@ -72,6 +70,7 @@ impl Told {
         ensures { asker.new ≡ asker.old }
     {
         self.is_refused = false;
+        self.is_due = rows > 0;
         if is_query || self.command > 0 || self.rows != rows {
             self.command = 0;
             self.rows = rows;

@@ -76,16 +76,6 @@ module _ (calls : List AnsweredCall) (places : List (Option Count)) (next : ℕ)
       (λ apart. is_left_still calls (listed_wish c.conversation w f ∷ []) l (are place l (sym (get_other left p place (Some now) apart) ∙ stands)))
       (same_or_apart p place)
 
--- an answer is left no longer
-pub left_less : (calls : List AnsweredCall) (left : List (Option Left)) (p : ℕ) → AreLeft calls left → AreLeft calls (slice_set left p None)
-left_less calls left p are place l stands =
-    ⊎_elim
-    (λ so.
-    let is : None ≡ Some l = set_stands left p None (Some l) (subst (λ (n : ℕ). slice_get (slice_set left p None) n ≡ Some (Some l)) (sym so) stands) in
-    absurd (cc is))
-    (λ apart. are place l (sym (get_other left p place None apart) ∙ stands))
-    (same_or_apart p place)
-
 pub none_left : (n : ℕ) → AreLeft [] (replicate n None)
 none_left n place l stands = let is : Some l ≡ None = get_replicate n place None (Some l) stands in absurd (cc is)
 
@@ -99,15 +89,6 @@ true_more b left p l is are place m stands failed =
     let same : l ≡ m = cc one in
     is (ap (λ (x : Left). x.has_failed) same ∙ failed))
     (λ apart. are place m (sym (get_other left p place (Some l) apart) ∙ stands) failed)
-    (same_or_apart p place)
-
-pub true_less : (b : Bool) (left : List (Option Left)) (p : ℕ) → FailuresAreTrue b left → FailuresAreTrue b (slice_set left p None)
-true_less b left p are place m stands failed =
-    ⊎_elim
-    (λ so.
-    let is : None ≡ Some m = set_stands left p None (Some m) (subst (λ (n : ℕ). slice_get (slice_set left p None) n ≡ Some (Some m)) (sym so) stands) in
-    absurd (cc is))
-    (λ apart. are place m (sym (get_other left p place None apart) ∙ stands) failed)
     (same_or_apart p place)
 
 pub true_after : (b c : Bool) (left : List (Option Left)) → (b ≡ true → c ≡ true) → FailuresAreTrue b left → FailuresAreTrue c left

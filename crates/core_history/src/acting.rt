@@ -13,8 +13,6 @@ use crate::renewals::{Lack, Renewals};
 use core_calls::{Answer, CoreCall};
 use drda_disk::Disk;
 use durable_core::DurableCore;
-use recovery::images::calls_go_on;
-use serializability::answers::{answers_are_serial, answers_belong_to_calls};
 use std::alloc::Global;
 use std::snapshot::Snapshot;
 
@@ -30,8 +28,8 @@ impl<D: Disk> Book<D> {
         ensures book { IfOk result (λ b. b ≡ newly_opened core) }
         ensures back { IfErr result (λ back. back ≡ core) }
     {
-        calls_go_on::<D>();
-        answers_are_serial();
+        recovery::laws::calls_go_on::<D>();
+        serializability::laws::answers_are_serial();
         core.is_durable();
         let Ok(places) = free_places(alloc) else {
             return Err(core);
@@ -94,7 +92,7 @@ impl<D: Disk> Book<D> {
         ensures none { result ≡ None → (self.new ≡ self.old) × HasNoLeave self.old }
         ensures journaled { Journaled D.is_modelled (shown_on D.life self.old.core) (shown_on D.life self.new.core) }
     {
-        calls_go_on::<D>();
+        recovery::laws::calls_go_on::<D>();
         self.core.is_durable();
         let next = self.next.checked_add(1)?;
         let place = free_place(&self.places)?;
@@ -120,9 +118,9 @@ impl<D: Disk> Book<D> {
         ensures acts { Acts D.is_modelled D.life self.old pass.old (call_of call.now) result self.new pass.new }
         ensures journaled { Journaled D.is_modelled (shown_on D.life self.old.core) (shown_on D.life self.new.core) }
     {
-        calls_go_on::<D>();
-        answers_are_serial();
-        answers_belong_to_calls();
+        recovery::laws::calls_go_on::<D>();
+        serializability::laws::answers_are_serial();
+        serializability::laws::answers_belong_to_calls();
         self.core.is_durable();
         if !knows(&self.places, pass) {
             return Acted::StrangerPass;
@@ -154,9 +152,23 @@ impl<D: Disk> Book<D> {
         ensures rest { self.new ≡ record self.old { core = self.new.core } }
         ensures journaled { Journaled D.is_modelled (shown_on D.life self.old.core) (shown_on D.life self.new.core) }
     {
-        calls_go_on::<D>();
+        recovery::laws::calls_go_on::<D>();
         self.core.is_durable();
         if self.renewals.is_due(&self.core) {
+            self.renewals.renew(&mut self.core);
+        }
+    }
+
+    /// Behind a group: writes a checkpoint where the records since the last one take more than 16 MiB and a sixteenth of a half. Else
+    /// as `consider_checkpoint`.
+    pub fn consider_behind_group(&mut self)
+        ensures rests { Rests self.old.core self.new.core }
+        ensures rest { self.new ≡ record self.old { core = self.new.core } }
+        ensures journaled { Journaled D.is_modelled (shown_on D.life self.old.core) (shown_on D.life self.new.core) }
+    {
+        recovery::laws::calls_go_on::<D>();
+        self.core.is_durable();
+        if self.renewals.is_overdue(&self.core) {
             self.renewals.renew(&mut self.core);
         }
     }
@@ -169,7 +181,7 @@ impl<D: Disk> Book<D> {
         ensures stranger { result ≡ false → self.new ≡ self.old }
         ensures journaled { Journaled D.is_modelled (shown_on D.life self.old.core) (shown_on D.life self.new.core) }
     {
-        calls_go_on::<D>();
+        recovery::laws::calls_go_on::<D>();
         self.core.is_durable();
         if !knows(&self.places, &pass) {
             return false;

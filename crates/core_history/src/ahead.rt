@@ -4,7 +4,6 @@ use crate::asking::lay_ahead;
 use crate::book::Book;
 use crate::wish::Wish;
 use drda_disk::{Disk, Flushed, Flusher};
-use recovery::images::calls_go_on;
 
 impl<D: Disk> Book<D> {
     ghost use Rattle.std.specs.Prelude.{◌≡◌};
@@ -22,7 +21,7 @@ impl<D: Disk> Book<D> {
         ensures rest { self.new ≡ record self.old { core = self.new.core } }
         ensures journaled { Journaled D.is_modelled (shown_on D.life self.old.core) (shown_on D.life self.new.core) }
     {
-        calls_go_on::<D>();
+        recovery::laws::calls_go_on::<D>();
         self.core.is_durable();
         if !self.chosen.choose(&self.core, &self.places, wishes) {
             return None;
@@ -37,7 +36,7 @@ impl<D: Disk> Book<D> {
         ensures rest { self.new ≡ record self.old { core = self.new.core } }
         ensures journaled { Journaled D.is_modelled (shown_on D.life self.old.core) (shown_on D.life self.new.core) }
     {
-        calls_go_on::<D>();
+        recovery::laws::calls_go_on::<D>();
         self.core.settle(flushed);
     }
 }

@@ -16,8 +16,6 @@ use crate::wish::Wish;
 use core_calls::{Answer, CoreCall};
 use drda_disk::{Disk, Flusher};
 use durable_core::{DurableCore, Together};
-use recovery::images::calls_go_on;
-use serializability::answers::answers_belong_to_calls;
 use unit_records::{Asked, GroupCall, Phase};
 use xa_calls::{Request, Verb, Xid};
 
@@ -32,8 +30,8 @@ pub(crate) fn ask<D: Disk>(
     ensures answered { IsAnswered D.is_modelled D.life core.old conversation (call_of call.now) (answer_of result) core.new }
     ensures journaled { Journaled D.is_modelled (shown_on D.life core.old) (shown_on D.life core.new) }
 {
-    calls_go_on::<D>();
-    answers_belong_to_calls();
+    recovery::laws::calls_go_on::<D>();
+    serializability::laws::answers_belong_to_calls();
     match core.step(conversation, call) {
         Answer::Full { need: _, room: _ } => {
             renewals.renew(core);
@@ -63,7 +61,7 @@ fn make_together<D: Disk>(
     ensures none { result ≡ None → IsUnchanged (shown_on D.life core.old) (shown_on D.life core.new) }
     ensures journaled { Journaled D.is_modelled (shown_on D.life core.old) (shown_on D.life core.new) }
 {
-    calls_go_on::<D>();
+    recovery::laws::calls_go_on::<D>();
     core.is_durable();
     if !list_calls(members, calls) {
         return None;
@@ -76,7 +74,7 @@ pub(crate) fn lay_ahead<D: Disk>(core: &mut DurableCore<D>, chosen: &mut Chosen)
     ensures rests { Rests core.old core.new }
     ensures journaled { Journaled D.is_modelled (shown_on D.life core.old) (shown_on D.life core.new) }
 {
-    calls_go_on::<D>();
+    recovery::laws::calls_go_on::<D>();
     core.is_durable();
     if !list_calls(&chosen.members, &mut chosen.calls) {
         return None;

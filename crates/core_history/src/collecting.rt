@@ -7,7 +7,6 @@ use crate::listing::answer_left;
 use crate::pass::Pass;
 use core_calls::Answer;
 use drda_disk::Disk;
-use recovery::images::calls_go_on;
 use unit_records::Asked;
 
 impl<D: Disk> Book<D> {
@@ -24,7 +23,7 @@ impl<D: Disk> Book<D> {
         ensures none { result ≡ None → CollectsNothing self.old pass.old wished.now self.new pass.new }
         ensures journaled { Journaled D.is_modelled (shown_on D.life self.old.core) (shown_on D.life self.new.core) }
     {
-        calls_go_on::<D>();
+        recovery::laws::calls_go_on::<D>();
         self.core.is_durable();
         let has_failed = left_for(&self.places, &self.left, pass, wished)?;
         take_away(&mut self.left, pass.place);

@@ -5,8 +5,6 @@ use crate::book::Book;
 use crate::listing::list_all;
 use crate::wish::Wish;
 use drda_disk::Disk;
-use recovery::images::calls_go_on;
-use serializability::answers::answers_are_serial;
 
 impl<D: Disk> Book<D> {
     ghost use Rattle.std.specs.Prelude.{◌⊎◌};
@@ -24,8 +22,8 @@ impl<D: Disk> Book<D> {
         ensures gathers { GathersNone D.life self.old self.new ⊎ Gathers D.life self.old wishes.now self.new }
         ensures journaled { Journaled D.is_modelled (shown_on D.life self.old.core) (shown_on D.life self.new.core) }
     {
-        calls_go_on::<D>();
-        answers_are_serial();
+        recovery::laws::calls_go_on::<D>();
+        serializability::laws::answers_are_serial();
         self.core.is_durable();
         if !self.chosen.choose(&self.core, &self.places, wishes) {
             return;

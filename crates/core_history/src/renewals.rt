@@ -1,9 +1,17 @@
 //! The checkpoints that a book writes.
 
+ghost use Rattle.std.specs.Prelude.{◌≡◌};
+ghost use Rattle.core_history.specs.Fillings.{has_many};
+
 use crate::filling::Filling;
 use drda_disk::Disk;
-use durable_core::{Checkpointed, DurableCore};
-use recovery::images::calls_go_on;
+use durable_core::{Checkpointed, DurableCore, Gauge};
+
+/// So many bytes of records since the last checkpoint are let stand behind a group, however small the store is,
+const LET_STAND: usize = 16 << 20;
+
+/// and of a larger store as many as this part of a half.
+const PARTS_LET_STAND: usize = 16;
 
 /// The checkpoints that a book writes: how many were written since it was opened, and how many bytes of records the last one laid;
 /// how full the core was behind the last one that was written, or that had no room; and whether that had none.
@@ -26,12 +34,20 @@ pub enum Lack {
     Half,
 }
 
+// Whether many bytes of records stand since the last checkpoint, which laid so many.
+fn has_many_records(gauge: Gauge, laid: usize) -> bool
+    ensures { result ≡ has_many gauge laid }
+{
+    let since = gauge.records.saturating_sub(laid);
+    since > LET_STAND && since > gauge.half / PARTS_LET_STAND
+}
+
 impl Renewals {
     ghost use Rattle.std.specs.Prelude.{◌≡◌, ◌<◌, ◌↔◌, IsTrue, None, Some, false, true};
     ghost use Rattle.durable_core.specs.Checkpointing.{half_bytes_for, need_for};
     ghost use Rattle.durable_core.specs.Gauging.{IsDue};
     ghost use Rattle.recovery.specs.Journaled.{Journaled, shown_on};
-    ghost use Rattle.core_history.specs.Fillings.{filling_of};
+    ghost use Rattle.core_history.specs.Fillings.{IsOverdue, filling_of};
     ghost use Rattle.core_history.specs.Passes.{Rests};
 
     /// None was written yet.
@@ -60,6 +76,19 @@ impl Renewals {
         core.is_checkpoint_due(self.laid)
     }
 
+    /// Whether a checkpoint is due behind a group already, since a conversation may go on for ever: an opening replays all records since
+    /// the last one, and memory keeps their rows. So it is where these take more than 16 MiB and a sixteenth of a half, but for tables
+    /// that no longer fit in a half.
+    pub(crate) fn is_overdue<D: Disk>(&self, core: &DurableCore<D>) -> bool
+        ensures overdue { IsTrue D.is_modelled → core.now.is_failed ≡ false → self.now.lacks_half ≡ false → IsOverdue (shown_on D.life core.now) self.now.laid result }
+        ensures lacks { self.now.lacks_half ≡ true → result ≡ false }
+    {
+        if self.lacks_half {
+            return false;
+        }
+        has_many_records(core.gauge(), self.laid)
+    }
+
     /// What a record has no room in that this core has none for. No clause says anything of it.
     pub(crate) fn lack<D: Disk>(&self, core: &DurableCore<D>) -> Lack {
         if self.lacks_half {
@@ -80,7 +109,7 @@ impl Renewals {
         ensures once { self.old.last ≡ Some (filling_of core.old) → (core.new ≡ core.old) × (self.new ≡ self.old) }
         ensures journaled { Journaled D.is_modelled (shown_on D.life core.old) (shown_on D.life core.new) }
     {
-        calls_go_on::<D>();
+        recovery::laws::calls_go_on::<D>();
         core.is_durable();
         if self.is_as_full(core) {
             return;

@@ -2,11 +2,6 @@
 
 ghost use Rattle.core_model.specs.Laws.{AllButCreationsAreDescribed, AnswersAreMeanings, BranchesWork, ChangesHaveALimit, ChangesLie, ClaimsAreKept, ClaimsHaveALimit, ClaimsStayFew, DescriptionsClaimNothing, EndsAreAnswered, GlobalUnitsStay, HeuristicsWork, HistoriesAreSane, InDoubtWait, LocalUnitsEnd, LostLeavesNothing, NewCoresAreSane, OneListing, RefusalsChangeNothing, RefusalsMakeNoChange, StartsWantNoWork, StatementsStay, StoresStay, UnfitIsRefused, UnitsSeeStores, UnitsStayApart, UnitsStayListed, WorkIsWhereJoined};
 
-use sql_semantics::laws::statements_are_framed;
-use tables::laws::changes_are_local;
-use unit_locks::{adding, clash_is_symmetric};
-use xa_manager::{prepared_until_decided, works_while_active};
-
 /// A statement changes at most the unit that its conversation works in.
 pub fn statements_work_in_one_unit()
     ensures stay { StatementsStay }
@@ -25,8 +20,8 @@ pub fn statements_work_in_one_unit()
 pub fn answers_are_meanings()
     ensures { AnswersAreMeanings }
 {
-    adding();
-    statements_are_framed();
+    unit_locks::laws::adding();
+    sql_semantics::laws::statements_are_framed();
 }
 
 /// A statement that is answered by what it means has claimed, also where that is a refusal; and none
@@ -34,7 +29,7 @@ pub fn answers_are_meanings()
 pub fn claims_are_kept()
     ensures { ClaimsAreKept }
 {
-    adding();
+    unit_locks::laws::adding();
 }
 
 /// A description of a table that is there claims nothing, and changes nothing.
@@ -92,9 +87,9 @@ pub fn lost_leaves_nothing()
 pub fn changes_lie()
     ensures { ChangesLie }
 {
-    adding();
-    changes_are_local();
-    statements_are_framed();
+    unit_locks::laws::adding();
+    tables::laws::changes_are_local();
+    sql_semantics::laws::statements_are_framed();
 }
 
 /// No claims of two units clash, and every step keeps this; units that were found in doubt may clash
@@ -103,8 +98,8 @@ pub fn claims_stay_apart()
     ensures apart { UnitsStayApart }
     ensures few { ClaimsStayFew }
 {
-    adding();
-    clash_is_symmetric();
+    unit_locks::laws::adding();
+    unit_locks::laws::clash_is_symmetric();
 }
 
 /// No call asks anything of a unit in doubt; where its branch is no longer prepared, the unit has
@@ -112,8 +107,8 @@ pub fn claims_stay_apart()
 pub fn units_in_doubt_wait()
     ensures { InDoubtWait }
 {
-    works_while_active();
-    prepared_until_decided();
+    xa_manager::laws::works_while_active();
+    xa_manager::laws::prepared_until_decided();
 }
 
 /// The committed store is a store, and so is what each unit sees of it; every step keeps this.
@@ -121,7 +116,7 @@ pub fn stores_stay()
     ensures stay { StoresStay }
     ensures seen { UnitsSeeStores }
 {
-    changes_are_local();
+    tables::laws::changes_are_local();
 }
 
 /// The units that are listed have work, and stand in the order of their owners, each once: every step
@@ -131,14 +126,13 @@ pub fn units_stay_listed()
     ensures one { OneListing }
 {}
 
-/// At every point of every history, from an opening where it is so: the units are listed in their
-/// order, the committed store is a store, each change of a unit lies in a write claim of it, and no unit has more than 65,535 claims, nor one
-/// twice. It is so of a new core.
+/// At every point of every history, from an opening where it is so: the units are listed in their order, the committed store is a store,
+/// each change of a unit lies in a write claim of it, and no unit has more than 65,535 claims, nor one twice. It is so of a new core.
 pub fn histories_are_sane()
     ensures histories { HistoriesAreSane }
     ensures new { NewCoresAreSane }
 {
-    adding();
-    changes_are_local();
-    statements_are_framed();
+    unit_locks::laws::adding();
+    tables::laws::changes_are_local();
+    sql_semantics::laws::statements_are_framed();
 }

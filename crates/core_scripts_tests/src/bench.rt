@@ -145,9 +145,10 @@ impl Calls for Bench {
     }
 
     // `fresh` is a core without tables. `look` shows the rows of T, the units that have work, and the branches; `branches` those alone, and
-    // `changes` how many changes the first unit has, and their bytes. `together` makes calls together, in this order: each is C, the commit of
-    // the conversation C, or PHASE:C=N, by which it asks for a phase of the branch =N; behind `room` each commit has so many changes at most. `decide`
-    // decides a branch heuristically, to `commit` or to `rollback`. `tables`, `known`, `doubts` and `records` count tables, branches and records.
+    // `changes` how many changes the first unit has, and their bytes. `together` makes calls together, in this order: each is C, the commit
+    // of the conversation C, or PHASE:C=N, by which it asks for a phase of the branch =N; behind `room` each commit has so many changes at
+    // most. `decide` decides a branch heuristically, to `commit` or to `rollback`. `tables`, `known`, `doubts` and `records` count tables,
+    // branches and records.
     fn do_other(
         &mut self,
         _scripts: &Scripts,

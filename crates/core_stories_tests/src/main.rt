@@ -1,5 +1,6 @@
-//! Random lists of calls of three conversations, each answered by a core as a plain program answers it, code, state, count and rows: that program
-//! (tests/gate/core_stories) writes standard input, rules by which the lists are made, and what has to be written. It says what is covered.
+//! Random lists of calls of three conversations, each answered by a core as a plain program answers it, code, state, count and rows: that
+//! program (tests/gate/core_stories) writes standard input, rules by which the lists are made, and what has to be written. It says what is
+//! covered.
 #![tactic(auto)]
 
 mod asked;

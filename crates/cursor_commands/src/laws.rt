@@ -3,8 +3,6 @@
 ghost use Rattle.cursor_commands.specs.Blocks.{BlocksAreLongest, BlocksAreOne};
 ghost use Rattle.cursor_commands.specs.Laws.{ClosingAsksNobody, ClosingIsLocal, FetchesSendAllRows, FetchingAsksNobody, FetchingIsLocal, OpeningIsLocal, QueriesSendAllRows};
 
-use sections::calls_are_local;
-
 /// A block of so many rows as the definition counts is the longest one of its size, and no other is.
 pub fn blocks_are_longest()
     ensures block { BlocksAreLongest }
@@ -23,7 +21,7 @@ pub fn other_sections_stay()
     ensures fetching { FetchingIsLocal }
     ensures closing { ClosingIsLocal }
 {
-    calls_are_local();
+    sections::laws::calls_are_local();
 }
 
 /// A cursor that is read to its end sends each of its remaining rows once, in their order, and ENDQRYRM

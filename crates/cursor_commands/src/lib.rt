@@ -5,7 +5,7 @@
 mod closing;
 mod command;
 mod fetching;
-mod laws;
+pub mod laws;
 mod opening;
 mod query;
 mod replies;
@@ -15,6 +15,5 @@ mod sizes;
 pub use closing::close;
 pub use command::do_command;
 pub use fetching::fetch;
-pub use laws::{blocks_are_longest, fetches_send_all_rows, only_opening_asks, other_sections_stay};
 pub use opening::open;
 pub use sizes::most_length;

@@ -9,7 +9,7 @@ mod builder;
 pub mod code_point;
 mod contents;
 mod fault;
-mod laws;
+pub mod laws;
 mod object;
 mod parts;
 mod writing;
@@ -18,9 +18,6 @@ pub use builder::Builder;
 pub use code_point::CodePoint;
 pub use contents::{find_in, parts_of};
 pub use fault::{FindFault, ObjFault};
-pub use laws::{
-    nesting_reads_back, one_cut, reads_objects, spelled_is_an_object, walk_goes_on, walk_is_the_cut,
-};
 pub use object::Object;
 pub use parts::Parts;
 pub use writing::{Opened, close, open, put};

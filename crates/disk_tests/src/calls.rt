@@ -70,7 +70,8 @@ fn change_bytes<D: Disk>(
     }
 }
 
-/// Syncs, or writes the bytes behind a place, by `through` with the sync behind them. A range that does not lie on the disk is a fault here.
+/// Syncs, or writes the bytes behind a place, by `through` with the sync behind them. A range that does not lie on the disk is a fault
+/// here.
 pub fn change<D: Disk>(
     alloc: Global,
     disk: &mut D,
@@ -100,8 +101,8 @@ fn tell_flush<D: Disk>(
 }
 
 /// Tells what a call answers: `read` the first 16 bytes, `size` the number of bytes and of failures, and else whether the change was made:
-/// `sync`, and `put` and `through` with a place and bytes behind them. `try` puts bytes too, and tells whether it is counted where it fails; `flush` flushes
-/// from outside and settles.
+/// `sync`, and `put` and `through` with a place and bytes behind them. `try` puts bytes too, and tells whether it is counted where it
+/// fails; `flush` flushes from outside and settles.
 pub fn tell_call<D: Disk>(
     alloc: Global,
     disk: &mut D,

@@ -24,7 +24,8 @@ fn path_of(rt: &HostRuntime, name: &str) -> Result<String, AllocError> {
     }
 }
 
-// Makes a file of so many bytes, or opens the one that is there. Its disk takes the place of the one before; where it is refused, that stays.
+// Makes a file of so many bytes, or opens the one that is there. Its disk takes the place of the one before; where it is refused, that
+// stays.
 fn take<F: PositionalFile + Drop, P: FilePlace<File = F>>(
     disk: &mut Option<FileDisk<F>>,
     place: &mut P,
@@ -128,8 +129,8 @@ impl Files {
         tell_both(out, ("syncs of its folder", syncs), ("taken away", removed))
     }
 
-    /// Does a step with a file that is none, and tells what it comes to: `over` and `place` make one, `calls` tells how many there were of it,
-    /// and else it is a call of its disk.
+    /// Does a step with a file that is none, and tells what it comes to: `over` and `place` make one, `calls` tells how many there were of
+    /// it, and else it is a call of its disk.
     pub fn answer_fake(
         &mut self,
         alloc: Global,

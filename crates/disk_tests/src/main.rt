@@ -1,5 +1,5 @@
-//! Tests of drda_disk and unit_journal. Each line of standard input names a disk and has steps for it, which semicolons part; what each step
-//! tells goes to standard output, which is compared.
+//! Tests of drda_disk and unit_journal. Each line of standard input names a disk and has steps for it, which semicolons part; what each
+//! step tells goes to standard output, which is compared.
 #![tactic(auto)]
 
 mod calls;

@@ -11,8 +11,8 @@ use std::mem;
 use test_bytes::bytes_of;
 use unit_journal::{Journal, Record, Staged};
 
-/// A disk in memory behind a fuse, the region of a journal on it, the journal, if one is open, by itself or with a group laid ahead, and the
-/// records that were found last.
+/// A disk in memory behind a fuse, the region of a journal on it, the journal, if one is open, by itself or with a group laid ahead, and
+/// the records that were found last.
 #[derive(Drop)]
 pub struct Memory {
     alloc: Global,
@@ -302,10 +302,10 @@ impl Memory {
         }
     }
 
-    // `journal` begins one in a region; `start`, `lay`, `open` and others concern it. `found` tells how many records a crash leaves of a copy,
-    // and `with` how many are there with another byte. `stage` lets groups be laid ahead: `ahead` lays one of so many records, with the bytes
-    // that are held back and released behind their number; `whole` adds one and `alone` a record; `settle` and `rest` go on, and `staged` tells
-    // what is left. All else is a call of the disk.
+    // `journal` begins one in a region; `start`, `lay`, `open` and others concern it. `found` tells how many records a crash leaves of a
+    // copy, and `with` how many are there with another byte. `stage` lets groups be laid ahead: `ahead` lays one of so many records, with
+    // the bytes that are held back and released behind their number; `whole` adds one and `alone` a record; `settle` and `rest` go on, and
+    // `staged` tells what is left. All else is a call of the disk.
     fn answer_of_journal(
         &mut self,
         verb: &str,

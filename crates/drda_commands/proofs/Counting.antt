@@ -3,6 +3,3 @@ use Rattle.std.proofs.Common.{◌≡◌, ℕ, suc, ◌+◌, min, arith}
 
 pub counts_one : (count next left most : ℕ) → next ≡ min (count + 1) most → min (next + left) most ≡ min (count + suc left) most
 counts_one count next left most e = omega arith
-
-pub counts_many : (count next here left most : ℕ) (own : ℕ) → own ≡ min here most → next ≡ min (count + own) most → min (next + left) most ≡ min (count + (here + left)) most
-counts_many count next here left most own e f = omega arith

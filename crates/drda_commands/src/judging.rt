@@ -6,7 +6,7 @@ ghost use Rattle.std.specs.List.{list_any};
 ghost use Rattle.drda_words.specs.Excuse.{Answers};
 ghost use Rattle.ddm_objects.specs.Source.{view};
 ghost use Rattle.dss_frames.specs.Group.{command_of};
-ghost use Rattle.drda_commands.specs.Tables.{command_for};
+ghost use Rattle.drda_commands.specs.Tables.{command_for, items_for};
 ghost use Rattle.drda_commands.specs.Given.{contents_of};
 ghost use Rattle.drda_commands.specs.Judge as spec;
 ghost use Rattle.drda_commands.specs.Needs.{Needs};
@@ -258,31 +258,51 @@ fn item_faults(unicode: bool, item: Item, occurs: Occurs<'_>) -> Faults
     }
 }
 
-fn is_any_required(items: &[Item]) -> bool
-    ensures { result ≡ list_any (λ item. item.is_required) items.now }
+// Whether a command requires an item.
+#[inline(always)]
+fn requires_any(command: Command) -> bool
+    ensures { result ≡ list_any (λ item. item.is_required) (items_for command) }
 {
-    for item in items {
-        if item.is_required {
-            return true;
-        }
+    match command {
+        Command::Excsat | Command::Rdbcmm | Command::Rdbrllbck => false,
+        Command::Accsec
+        | Command::Secchk
+        | Command::Accrdb
+        | Command::Excsqlimm
+        | Command::Prpsqlstt
+        | Command::Dscsqlstt
+        | Command::Excsqlstt
+        | Command::Opnqry
+        | Command::Cntqry
+        | Command::Clsqry
+        | Command::Syncctl => true,
     }
-    false
 }
 
-// Each item is found once. A command that comes alone, as a commit does, only wants what it requires.
+// What is wrong with what a command brought. One that comes alone, as a commit does, only wants what it requires.
+#[inline(always)]
+fn faults_in(unicode: bool, command: Command, given: &Given<'_>) -> Faults
+    ensures twice { result.is_twice ≡ list_any (spec.item_twice (given_of given.now)) (items_for command) }
+    ensures missing { result.is_missing ≡ list_any (spec.item_missing (given_of given.now)) (items_for command) }
+    ensures bad { MatchOption result.bad (spec.none_bad unicode (items_for command) (given_of given.now) ≡ Ok tt) (λ code. spec.none_bad unicode (items_for command) (given_of given.now) ≡ Err (Refusal.ValueNotSupported code)) }
+{
+    if given.is_empty() {
+        return Faults {
+            is_twice: false,
+            is_missing: requires_any(command),
+            bad: None,
+        };
+    }
+    faults_of(unicode, items_of(command), given)
+}
+
+// Each item is found once.
 #[inline(always)]
 fn faults_of(unicode: bool, items: &[Item], given: &Given<'_>) -> Faults
     ensures twice { result.is_twice ≡ list_any (spec.item_twice (given_of given.now)) items.now }
     ensures missing { result.is_missing ≡ list_any (spec.item_missing (given_of given.now)) items.now }
     ensures bad { MatchOption result.bad (spec.none_bad unicode items.now (given_of given.now) ≡ Ok tt) (λ code. spec.none_bad unicode items.now (given_of given.now) ≡ Err (Refusal.ValueNotSupported code)) }
 {
-    if given.is_empty() {
-        return Faults {
-            is_twice: false,
-            is_missing: is_any_required(items),
-            bad: None,
-        };
-    }
     let mut faults = Faults {
         is_twice: false,
         is_missing: false,
@@ -295,11 +315,10 @@ fn faults_of(unicode: bool, items: &[Item], given: &Given<'_>) -> Faults
     faults
 }
 
-/// The command in a request DSS with these contents and these object DSSs behind it, or what it is
-/// refused for; `unicode` says whether names may come in UTF-8. The first refusal in this order counts: no command
-/// object, its faults, bytes behind it; an unknown command; one that does not come at this stage; faults of objects, and of the texts of a statement, by place, and more than
-/// eight data objects; a parameter or data object twice, a required one missing, a value that is not
-/// supported.
+/// The command in a request DSS with these contents and these object DSSs behind it, or what it is refused for; `unicode` says whether
+/// names may come in UTF-8. The first refusal in this order counts: no command object, its faults, bytes behind it; an unknown command; one
+/// that does not come at this stage; faults of objects, and of the texts of a statement, by place, and more than eight data objects; a
+/// parameter or data object twice, a required one missing, a value that is not supported.
 pub fn judge<'a>(
     stage: Stage,
     unicode: bool,
@@ -321,7 +340,7 @@ pub fn judge<'a>(
         objects,
     };
     check_whole(command, given)?;
-    let faults = faults_of(unicode, items_of(command), &given);
+    let faults = faults_in(unicode, command, &given);
     if faults.is_twice {
         return Err(Refusal::Syntax(SyntaxError::Twice));
     }

@@ -1,5 +1,5 @@
 -- How a run of calls goes on.
-use Rattle.std.proofs.Common.{inl, inr, ⊎_elim, ℕ, ◌+◌, ◌≤◌, List, arith, length, refl, sym, ◌∙◌, ap, subst, ◌≡◌}
+use Rattle.std.proofs.Common.{inl, inr, ⊎_elim, ℕ, ◌+◌, ◌≤◌, List, arith, length, refl, sym, ◌∙◌, ap, ◌≡◌}
 use Rattle.drda_disk.specs.Disk.{Life, Now, Only, Elapses, Stays, Torn, Tears, Within, LeavesOnly}
 use Rattle.drda_disk.proofs.Parts.{Torn-trans, Torn-wider}
 
@@ -77,12 +77,5 @@ torn_within at n from m base old new t within low high = torn at n old new (Torn
 pub stays_leaves : (old new : Life) (P : List ℕ → Type 0) → Stays old new → ((c : List ℕ) → Now old c → P c) → LeavesOnly old new P
 stays_leaves old new P s here = stays_and old new new P s (no_call new P (λ c now. here c (s.no_more c now))) here
 
--- where each image is a base but for a range
-pub Only-within : (at n : ℕ) (base : List ℕ) (disk : Life) → Only disk → Torn at n base disk.seen → Within at n base disk
-Only-within at n base disk only torn c now = subst (λ (l : List ℕ). Torn at n base l) (sym (only c now)) torn
-
 pub Within-stays : (at n : ℕ) (base : List ℕ) (old new : Life) → Stays old new → Within at n base old → Within at n base new
 Within-stays at n base old new s within c now = within c (s.no_more c now)
-
-pub Within-wider : (at n from m : ℕ) (base : List ℕ) (disk : Life) → from ≤ at → at + n ≤ from + m → Within at n base disk → Within from m base disk
-Within-wider at n from m base disk low high within c now = Torn-wider at n from m base c low high (within c now)

@@ -5,19 +5,8 @@ use borrow.Rule.Slice.PartMut.{post_of, put_mid, same_len_mid, mid_len}
 use Rattle.drda_words.specs.Place.{part}
 use Rattle.drda_disk.specs.Disk.{Life, overlaid, Torn}
 use Rattle.drda_disk.specs.PositionalFile.{MayTear}
-use Rattle.drda_disk.specs.Images.{Torn-refl, Torn-overlaid}
+use Rattle.drda_disk.specs.Images.{Torn-overlaid}
 use Rattle.drda_disk.proofs.Parts.{part-add, part_before, part-overlaid, take-add, Torn-wider, Torn-trans}
-
--- nothing is written yet
-pub MayTear-refl : (at n : ℕ) (a : Life) → MayTear at n a a
-MayTear-refl at n a = record {
-  tears = record {
-    time = record { later = omega arith; nothing_else = λ t c le left. inl left; keeps = λ t c le left. left };
-    others = Torn-refl at n a.seen;
-    images = λ c now. (c, now, Torn-refl at n c);
-  };
-  none_gone = λ c now. now;
-}
 
 -- a part more is written
 pub MayTear-more : (at n from m : ℕ) (a b c : Life) → MayTear at n a b → MayTear from m b c → at ≤ from → from + m ≤ at + n → MayTear at n a c

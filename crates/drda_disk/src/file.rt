@@ -38,10 +38,9 @@ pub struct FileDisk<F: PositionalFile> {
 impl<F: PositionalFile + Drop> FileDisk<F> {
     ghost use Rattle.drda_disk.specs.FileDisk.{file_of, own_faults_of, has_lost_sync};
 
-    /// Makes a file of `size` zeros at a place where no file is, locked. When it is returned, its zeros
-    /// and its folder's entry outlast a crash, of a file and a folder that keep what was written. Where one of these steps fails, the file is taken away
-    /// again if it can be. Memory on the device is not set aside: a device that is full fails a later
-    /// write.
+    /// Makes a file of `size` zeros at a place where no file is, locked. When it is returned, its zeros and its folder's entry outlast a
+    /// crash, of a file and a folder that keep what was written. Where one of these steps fails, the file is taken away again if it can be.
+    /// Memory on the device is not set aside: a device that is full fails a later write.
     pub fn create<P: FilePlace<File = F>>(
         place: &mut P,
         size: usize,

@@ -24,7 +24,7 @@ pub use file::{FileDisk, FileFault};
 pub use flush::{Flushed, Flusher};
 pub use fuse::FuseDisk;
 pub use laws::a_write_is_read_back;
-pub use layout::{OPEN_GATE, PAGE_BYTES};
+pub use layout::{CLOSED_GATE, OPEN_GATE, PAGE_BYTES};
 pub use memory::MemDisk;
 pub use positional::{FilePlace, PositionalFile};
 pub use region::Region;

@@ -17,8 +17,8 @@ const MOMENTS: u64 = 10;
 
 const MOMENT: u64 = 100;
 
-/// A conversation on its way to the database: its stream waits no longer than its time is left; refused logins are told, and behind the third one each answer waits for a second, in that
-/// conversation alone, until the database is open.
+/// A conversation on its way to the database: its stream waits no longer than its time is left; refused logins are told, and behind the
+/// third one each answer waits for a second, in that conversation alone, until the database is open.
 #[derive(Drop)]
 pub struct Guest<'a, R, L, K> {
     pub rt: &'a R,

@@ -1,4 +1,5 @@
-//! Conversations as guests of a server: how far each has come to the database, by what it is ended from another thread, and what is told of it.
+//! Conversations as guests of a server: how far each has come to the database, by what it is ended from another thread, and what is told of
+//! it.
 #![tactic(auto)]
 
 mod doors;

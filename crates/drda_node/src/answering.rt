@@ -15,7 +15,6 @@ use crate::node::Node;
 use conversation::Heard;
 use drda_disk::Disk;
 use durable_core::Checkpointed;
-use recovery::images::calls_go_on;
 use std::alloc::AllocError;
 
 /// Kinds of records that go out.
@@ -78,7 +77,7 @@ fn answer_open<D: Disk>(
     ensures breaks_off { OnErr result (BreaksOff (machine node.old) (opens number) (machine node.new)) }
     ensures journaled { IsJournaled D.is_modelled D.life (core_in node.old) (core_in node.new) }
 {
-    calls_go_on::<D>();
+    recovery::laws::calls_go_on::<D>();
     node.core.is_durable();
     let place = usize::from(number);
     if !node.is_free(place) {
@@ -101,7 +100,7 @@ fn answer_bytes<D: Disk>(
     ensures breaks_off { OnErr result (BreaksOff (machine node.old) (sends number bytes.now) (machine node.new)) }
     ensures journaled { IsJournaled D.is_modelled D.life (core_in node.old) (core_in node.new) }
 {
-    calls_go_on::<D>();
+    recovery::laws::calls_go_on::<D>();
     node.core.is_durable();
     let place = usize::from(number);
     if !node.has(place) {
@@ -165,7 +164,7 @@ fn answer_lost<D: Disk>(
     ensures breaks_off { OnErr result (BreaksOff (machine node.old) (loses number) (machine node.new)) }
     ensures journaled { IsJournaled D.is_modelled D.life (core_in node.old) (core_in node.new) }
 {
-    calls_go_on::<D>();
+    recovery::laws::calls_go_on::<D>();
     node.core.is_durable();
     let place = usize::from(number);
     if !node.has(place) {

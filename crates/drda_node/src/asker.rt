@@ -5,7 +5,6 @@ use command_kit::Ask;
 use core_calls::{Answer, CoreCall};
 use drda_disk::Disk;
 use durable_core::DurableCore;
-use serializability::answers::answers_belong_to_calls;
 
 /// The core, asked for one conversation.
 #[derive(Drop)]
@@ -24,7 +23,7 @@ impl<D: Disk> Ask for CoreAsker<'_, D> {
     ghost asks = { λ old call answer new. asks_of D.is_modelled D.life old call answer new };
 
     fn ask(&mut self, call: &CoreCall<'_, '_, '_>) -> Answer {
-        answers_belong_to_calls();
+        serializability::laws::answers_belong_to_calls();
         let answer = self.core.step(self.conversation, call);
         self.calls
             .note(self.conversation, call, &answer, is_done(&answer));

@@ -2,13 +2,11 @@
 
 ghost use Rattle.drda_node.specs.Closing.{OnlyFailedDevicesClose, OnlyFaultsClose};
 
-use serializability::answers::answers_belong_to_calls;
-
 /// A command closes its conversation, by AGNPRMRM, only where the device has failed, in this call or before it;
 /// what else closes one is a fault of the framing.
 pub fn only_failed_devices_close()
     ensures commands { OnlyFailedDevicesClose }
     ensures heard { OnlyFaultsClose }
 {
-    answers_belong_to_calls();
+    serializability::laws::answers_belong_to_calls();
 }

@@ -3,8 +3,8 @@
 ghost use Rattle.drda_node.specs.Calls.{CallsAreHistories};
 ghost use Rattle.drda_node.specs.Stations.{AnswersStay};
 
+pub use crate::serial::machines_are_serial;
 use drda_disk::Disk;
-use recovery::images::calls_go_on;
 
 /// What conversations, losses and events do to the core of a machine is a history of calls, each with its
 /// answer: so the law of serial order speaks of what was answered.
@@ -17,5 +17,5 @@ pub fn calls_are_histories()
 pub fn answered_events_stay<D: Disk>()
     ensures { AnswersStay D.is_modelled D.life }
 {
-    calls_go_on::<D>();
+    recovery::laws::calls_go_on::<D>();
 }

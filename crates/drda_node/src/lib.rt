@@ -10,7 +10,7 @@ pub mod laws;
 mod node;
 mod reading;
 mod row;
-pub mod serial;
+mod serial;
 mod serving;
 mod slot;
 

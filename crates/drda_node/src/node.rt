@@ -11,8 +11,6 @@ use conversation::{Fed, Heard, Settings};
 use core_calls::CoreCall;
 use drda_disk::Disk;
 use durable_core::{Checkpointed, DurableCore};
-use recovery::images::calls_go_on;
-use serializability::answers::answers_belong_to_calls;
 use std::alloc::Global;
 use thiserror::Error;
 
@@ -117,7 +115,7 @@ impl<D: Disk> Node<D> {
         ensures places { length (machine self.old).row ≡ 64 }
         ensures journaled { IsJournaled D.is_modelled D.life (core_in self.old) (core_in self.new) }
     {
-        calls_go_on::<D>();
+        recovery::laws::calls_go_on::<D>();
         self.core.is_durable();
         for place in 0..PLACES {
             if self.is_free(place) {
@@ -138,7 +136,7 @@ impl<D: Disk> Node<D> {
         ensures no_memory { (result ≡ Err OpenError.NoMemory) ↔ ((machine self.old).given + 1 ≡ 2 ^ 64) }
         ensures journaled { IsJournaled D.is_modelled D.life (core_in self.old) (core_in self.new) }
     {
-        calls_go_on::<D>();
+        recovery::laws::calls_go_on::<D>();
         self.core.is_durable();
         let number = self.next_number;
         let Some(next_number) = number.checked_add(1) else {
@@ -279,7 +277,7 @@ fn end_units<D: Disk>(core: &mut DurableCore<D>, calls: &mut CallList, conversat
     ensures left { asked_after D.is_modelled calls.new.listed core.new ≡ left_by (asked_after D.is_modelled calls.old.listed core.old) conversation }
     ensures journaled { IsJournaled D.is_modelled D.life core.old core.new }
 {
-    answers_belong_to_calls();
+    serializability::laws::answers_belong_to_calls();
     let answer = core.lost(conversation);
     calls.note(conversation, &CoreCall::Lost, &answer, is_done(&answer));
 }

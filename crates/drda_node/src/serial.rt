@@ -2,8 +2,6 @@
 
 ghost use Rattle.drda_node.specs.Serial.{HistoriesLead, MachinesAreSerial, SaneOpeningsBegin};
 
-use serializability::answers::answers_are_serial;
-
 /// What a machine answers is in serial order: the units that were committed have, alone one after another, the
 /// answers that it gave and their changes, from an opening that is sane.
 pub fn machines_are_serial()
@@ -11,5 +9,5 @@ pub fn machines_are_serial()
     ensures openings { SaneOpeningsBegin }
     ensures serial { MachinesAreSerial }
 {
-    answers_are_serial();
+    serializability::laws::answers_are_serial();
 }

@@ -15,7 +15,6 @@ use crate::node::Node;
 use crate::reading::{Incoming, read_event};
 use counted_streams::{Reader, Ready, Writer};
 use drda_disk::Disk;
-use recovery::images::calls_go_on;
 use std::alloc::{AllocError, Global};
 use std::io::Write;
 
@@ -66,7 +65,7 @@ pub fn run<D: Disk, R: Ready, W: Write>(
     ensures journaled { IsJournaled D.is_modelled D.life (core_in node.old) (core_in node.new) }
     ensures cause { TellsFaults result (counts reader.old writer.old) (counts reader.new writer.new) }
 {
-    calls_go_on::<D>();
+    recovery::laws::calls_go_on::<D>();
     node.core.is_durable();
     let Ok(mut buffer) = room_for_bytes(alloc) else {
         return RunEnd::NoMemory;

@@ -5,8 +5,6 @@ ghost use Rattle.conversation.specs.Feeding.{IsBetweenCommands};
 use crate::asker::CoreAsker;
 use conversation::{Fed, Front, Heard, Settings};
 use drda_disk::Disk;
-use dss_frames::stays_read;
-use recovery::images::calls_go_on;
 use std::alloc::{AllocError, Global};
 
 /// A place for a conversation, with the number that was given to the one that stands there.
@@ -32,7 +30,7 @@ impl Slot {
         ensures free { IfOk result (λ p. shown p ≡ None) }
         ensures settings { IfOk result (λ p. p.front.settings ≡ settings.now) }
     {
-        stays_read();
+        dss_frames::laws::stays_read();
         Ok(Slot {
             number: 0,
             is_open: false,
@@ -46,7 +44,7 @@ impl Slot {
         ensures number { self.new.number ≡ number }
         ensures settings { self.new.front.settings ≡ self.old.front.settings }
     {
-        stays_read();
+        dss_frames::laws::stays_read();
         self.front.restart(alloc);
         self.is_open = true;
         self.number = number;
@@ -58,7 +56,7 @@ impl Slot {
         ensures number { self.new.number ≡ self.old.number }
         ensures settings { self.new.front.settings ≡ self.old.front.settings }
     {
-        stays_read();
+        dss_frames::laws::stays_read();
         self.front.restart(alloc);
         self.is_open = false;
     }
@@ -78,7 +76,7 @@ impl Slot {
         ensures number { self.new.number ≡ self.old.number }
         ensures settings { self.new.front.settings ≡ self.old.front.settings }
     {
-        calls_go_on::<D>();
+        recovery::laws::calls_go_on::<D>();
         asker.core.is_durable();
         conversation::feed(&mut self.front, asker, piece, out)
     }
@@ -98,7 +96,7 @@ impl Slot {
         ensures number { self.new.number ≡ self.old.number }
         ensures settings { self.new.front.settings ≡ self.old.front.settings }
     {
-        calls_go_on::<D>();
+        recovery::laws::calls_go_on::<D>();
         asker.core.is_durable();
         conversation::feed_all(&mut self.front, asker, piece, out)
     }

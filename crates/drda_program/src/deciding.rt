@@ -7,7 +7,6 @@ ghost use Rattle.drda_program.specs.Deciding.{Ends, Migrates, Settles};
 
 use drda_disk::Disk;
 use durable_core::{Checkpointed, Decided, DurableCore};
-use recovery::images::calls_go_on;
 use store_files::Fault;
 use xa_calls::Xid;
 use xa_manager::Decision;
@@ -25,7 +24,7 @@ pub(crate) fn decide_on<D: Disk>(
     ensures ends { Ends D.is_modelled D.life xid.now decision core.old result core.new }
     ensures journaled { IsJournaled D.is_modelled D.life core.old core.new }
 {
-    calls_go_on::<D>();
+    recovery::laws::calls_go_on::<D>();
     if core.is_of_old_layout() {
         migrate(core)?;
         settle(core, xid, decision)

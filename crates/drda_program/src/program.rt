@@ -37,10 +37,10 @@ use xa_manager::Decision;
 /// - `init PATH --size N --rdb NAME` makes a store in a new file, and says its size.
 /// - `pipe [PATH] [--rdb NAME] --user U:P` answers event records from `reader` to `out`, over the store
 ///   of the path, or over one in memory that is just made and has this name.
-/// - `serve PATH --port N --user U:P [--count N] [--idle N] [--login N] [--cursor-bytes N] [--all-bytes N] [--log] [--end-when-failed]` says
-///   its port and serves conversations over sockets, up to 64 side by side, each in a thread of its own; with `--idle N` a
-///   connection on which nothing has come, or nothing was taken, for N seconds is closed, one that has not opened the database
-///   within the N seconds of `--login` is too, and with `--log` what becomes of conversations is told to `log`.
+/// - `serve PATH --port N --user U:P [--count N] [--idle N] [--login N] [--cursor-bytes N] [--all-bytes N] [--log] [--end-when-failed]`
+///   says its port and serves conversations over sockets, up to 64 side by side, each in a thread of its own; with `--idle N` a connection
+///   on which nothing has come, or nothing was taken, for N seconds is closed, one that has not opened the database within the N seconds of
+///   `--login` is too, and with `--log` what becomes of conversations is told to `log`.
 /// - `indoubt PATH` lists the units in doubt of a store, with how each was decided heuristically, where it was.
 /// - `decide PATH FORMAT:GLOBAL:BRANCH commit|rollback`, or with these parts in words of their own, decides a unit in doubt in
 ///   the place of its transaction manager, and says so; a store of layout 1 is checkpointed first.
@@ -53,11 +53,11 @@ use xa_manager::Decision;
 ///
 /// In the place of `--user U:P` may stand `--user-file FILE`, a file that holds U:P.
 ///
-/// The status is 0 where the job was done; 1 where the words ask for none, for a store of a size or
-/// name that none has, or for a login in a file that holds none; 2 where a file, a port or a stream failed, the last flush included; 3 where a file
-/// is no store or a damaged one; 4 where what came is no event; 5 where memory was refused; 6 where no unit of the XID
-/// waits for its decision; 7 where the checkpoint before a decision has no room, and the store stays as it was, or a store
-/// is to be moved into a size that is no store's, or a smaller one's.
+/// The status is 0 where the job was done; 1 where the words ask for none, for a store of a size or name that none has, or for a login in a
+/// file that holds none; 2 where a file, a port or a stream failed, the last flush included; 3 where a file is no store or a damaged one; 4
+/// where what came is no event; 5 where memory was refused; 6 where no unit of the XID waits for its decision; 7 where the checkpoint
+/// before a decision has no room, and the store stays as it was, or a store is to be moved into a size that is no store's, or a smaller
+/// one's.
 ///
 /// Of a store in a file all is said of the disk that opening its path gave: `indoubt` lists the units in
 /// doubt of the state that it opens to, in the order of their bytes; `pipe` answers as a machine does that

@@ -11,12 +11,8 @@ ghost use Rattle.drda_program.specs.Streams.{streams};
 use command_line::Login;
 use counted_streams::{Reader, Ready, Writer};
 use drda_disk::Disk;
-use drda_node::laws::calls_are_histories;
-use drda_node::serial::machines_are_serial;
 use drda_node::{DurableCore, RunEnd};
 use durable_core::OpenError;
-use recovery::openings::openings_begin_histories;
-use recovery::step_laws::openings_are_kept;
 use std::alloc::Global;
 use std::io::{Read, Write};
 use store_files::{Fault, StoreFiles, fault_of, fresh, open_to_run};
@@ -75,10 +71,10 @@ pub(crate) fn answer_file<F: StoreFiles, R: Read + Ready, W: Write>(
 ) -> Result<(), Fault>
     ensures { PipesFile F.Disk.is_modelled F.Disk.life F.calls F.Disk.syncs path.now (plain_login login.entry) files.old (R.remaining (source_of reader.old)) (streams (W.contents (sink_of out.old)) (counts reader.old out.old)) result files.new (streams (W.contents (sink_of out.new)) (counts reader.new out.new)) }
 {
-    openings_begin_histories();
-    openings_are_kept();
-    calls_are_histories();
-    machines_are_serial();
+    recovery::laws::openings_begin_histories();
+    recovery::laws::openings_are_kept();
+    drda_node::laws::calls_are_histories();
+    drda_node::laws::machines_are_serial();
     match open_to_run(alloc, files, path) {
         Ok(core) => answer_records(alloc, core, login, reader, out),
         Err(fault) => Err(fault),
@@ -95,10 +91,10 @@ pub(crate) fn answer_in_memory<R: Read + Ready, W: Write>(
 ) -> Result<(), Fault>
     ensures { PipesInMemory rdb.now (plain_login login.entry) (R.remaining (source_of reader.old)) (streams (W.contents (sink_of out.old)) (counts reader.old out.old)) result (streams (W.contents (sink_of out.new)) (counts reader.new out.new)) }
 {
-    openings_begin_histories();
-    openings_are_kept();
-    calls_are_histories();
-    machines_are_serial();
+    recovery::laws::openings_begin_histories();
+    recovery::laws::openings_are_kept();
+    drda_node::laws::calls_are_histories();
+    drda_node::laws::machines_are_serial();
     match fresh(alloc, rdb) {
         Ok(core) => answer_records(alloc, core, login, reader, out),
         Err(fault) => Err(fault),

@@ -12,7 +12,6 @@ use crate::network::Network;
 use crate::threads::{Rules, serve_streams};
 use command_line::{Login, ServeOptions};
 use conversation::{Settings, SettingsError};
-use core_history::lasting::kept_books_last;
 use drda_disk::Disk;
 use drda_guests::{Failure, Log, Name, Notice, Switched};
 use durable_core::DurableCore;
@@ -59,7 +58,7 @@ where
 {
     let core = open_file(alloc, files, path)?;
     let settings = settings_for(alloc, &core, login)?;
-    kept_books_last::<F::Disk>();
+    core_history::laws::kept_books_last::<F::Disk>();
     serve_core::<F::Disk, Brand, R, N, L, W>(
         rt, alloc, core, &settings, net, log, port, options, out,
     )

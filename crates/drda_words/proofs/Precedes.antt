@@ -1,6 +1,6 @@
 -- The order of byte lists: lemmas for the crates above.
-use Rattle.std.proofs.Common.{◌≡◌, ℕ, ◌≤◌, true, false, List, refl, sym, ap, subst, arith, ◌∙◌}
-use Rattle.std.specs.Ordering.{nat_cmp, is_lt, is_eq, ordering_reverse, ordering_index}
+use Rattle.std.proofs.Common.{◌≡◌, ℕ, true, false, List, refl, sym, ap, subst, ◌∙◌}
+use Rattle.std.specs.Ordering.{nat_cmp, is_lt, is_eq, ordering_reverse}
 use Rattle.std.specs.declared.cmp.Ordering.{Ordering}
 use Rattle.std.specs.declared.cmp.Ordering.TheVariants.{Less, Equal, Greater}
 use Rattle.std.specs.Cmp.Lexicographic.{slice_cmp}
@@ -65,25 +65,6 @@ precedes_or a b p e = by_case (slice_cmp nat_cmp a b) refl
         let t : bytes_eq b a ≡ true = subst (λ (x : List ℕ). bytes_eq b x ≡ true) (sym same) (bytes_eq-refl b) in
         absurd cc
     by_case Greater f = precedes_from_Greater a b f
-
--- seen from one list, the comparisons rise with the order
-pub index_rises : (a b x : List ℕ) → precedes a b ≡ true → ordering_index (slice_cmp nat_cmp a x) ≤ ordering_index (slice_cmp nat_cmp b x)
-index_rises a b x p = by_case (slice_cmp nat_cmp b x) refl
-  where
-    low : (r : Ordering) → r ≡ Less → (n : ℕ) → ordering_index r ≤ n
-    low r e n = rw e (omega arith)
-
-    top : (r : Ordering) → ordering_index r ≤ 2
-    top Less = omega arith
-    top Equal = omega arith
-    top Greater = omega arith
-
-    by_case : (r : Ordering) → slice_cmp nat_cmp b x ≡ r → ordering_index (slice_cmp nat_cmp a x) ≤ ordering_index r
-    by_case Less f = low (slice_cmp nat_cmp a x) (nat_list_cmp_total.trans a b x (precedes-Less a b p) f) 0
-    by_case Equal f =
-        let same : b ≡ x = exact_bytes b x f in
-        low (slice_cmp nat_cmp a x) (subst (λ (y : List ℕ). slice_cmp nat_cmp a y ≡ Less) same (precedes-Less a b p)) 1
-    by_case Greater f = top (slice_cmp nat_cmp a x)
 
 -- bytes that are found equal are so
 pub same_bytes : (a b : List ℕ) → bytes_eq a b ≡ true → a ≡ b

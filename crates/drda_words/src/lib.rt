@@ -5,9 +5,8 @@
 #![tactic(auto)]
 
 mod ghost_value;
-mod laws;
+pub mod laws;
 mod order;
 
 pub use ghost_value::GhostValue;
-pub use laws::{parts_are_bytes, words_are_numbers};
 pub use order::{bytes_precede, order_is_strict};

@@ -118,14 +118,6 @@ header_parts high low mark format c d first rest after part e = (
   ap length e ∙ (let k = length-append first rest in omega arith),
 )
 
-pub first_missing : (old : List ℕ) (from end : ℕ) (dss : Dss) (part after : List ℕ) → drop from old ≡ part ++ after → from + length part ≤ end → IsDss part dss
-    → segment_in 6 (end - from) (drop from old) ≡ None → ⊥
-first_missing old from end dss part after e fits h none =
-    let p = header_parts h.high h.low 0xD0 dss.format h.correlator_high h.correlator_low h.first h.rest after part h.text in
-    let counts : segment_length h.high h.low ≡ 6 + length h.first = h.counts in
-    let long : length part ≡ 6 + length h.first + length h.rest = p.1 in
-    segment_not_there 6 (end - from) h.high h.low (0xD0 ∷ dss.format ∷ h.correlator_high ∷ h.correlator_low ∷ h.first ++ (h.rest ++ after)) (drop from old) (e ∙ p.0) (omega arith) (omega arith) none
-
 pub first_joined : (old new : List ℕ) (from to end size : ℕ) (continued : Bool) (dss : Dss) (part after : List ℕ) → drop from old ≡ part ++ after → from + length part ≤ end → IsDss part dss
     → segment_in 6 (end - from) (drop from old) ≡ Some (size, continued)
     → take (to + size) new ≡ take to old ++ take size (drop from old) → drop (from + size) new ≡ drop (from + size) old

@@ -1,8 +1,7 @@
 -- Going over the DSSs of a group.
-use Rattle.std.proofs.Common.{◌≡◌, ℕ, zero, suc, ◌+◌, ◌*◌, ◌≤◌, List, [], ◌∷◌, length, take, drop, Option, Some, None, refl, sym, ap, ◌∙◌, arith, length-drop, length-take}
+use Rattle.std.proofs.Common.{◌≡◌, ℕ, zero, suc, ◌+◌, ◌*◌, ◌≤◌, List, [], ◌∷◌, length, take, drop, Option, Some, None, refl, sym, ap, ◌∙◌, arith, length-drop}
 use Rattle.std.specs.Prelude.{slice_get}
 use Rattle.std.proofs.lemmas.List.{drop-drop}
-use Rattle.drda_words.specs.Place.{StandsAt}
 use Rattle.drda_words.specs.Number.{word}
 use Rattle.dss_frames.specs.Dss.{Dss}
 use Rattle.dss_frames.specs.Group.{dsss_in, joined_dsss, first_dss}
@@ -66,17 +65,6 @@ get_past (suc i) zero (x ∷ ds) e le = absurd (omega arith)
 get_past (suc i) (suc j) (x ∷ ds) e le = get_past i j ds e (omega arith)
 
 -- ---- a part where it stands
-
-take-take_length : (n : ℕ) (xs : List ℕ) → take (length (take n xs)) xs ≡ take n xs
-take-take_length zero xs = refl
-take-take_length (suc n) [] = refl
-take-take_length (suc n) (x ∷ xs) = ap (λ (l : List ℕ). x ∷ l) (take-take_length n xs)
-
-pub stands_part : (text : List ℕ) (at m : ℕ) → at ≤ length text → StandsAt text at (take m (drop at text))
-stands_part text at m le =
-    let size = length-take m (drop at text) in
-    let behind = length-drop at text in
-    (omega arith, take-take_length m (drop at text))
 
 -- one DSS further on
 pub walk_on : (text : List ℕ) (at next i : ℕ) (dss : Dss) → first_dss (drop at text) ≡ Some dss → next ≡ at + (6 + length dss.contents) → drop i (joined_dsss text) ≡ joined_dsss (drop at text)

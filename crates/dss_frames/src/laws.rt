@@ -4,6 +4,8 @@ ghost use Rattle.dss_frames.specs.Fault.{BeginsWith, FaultAt, IsUnfinished};
 ghost use Rattle.dss_frames.specs.Reading.{HasOneReading, StandsOnce};
 ghost use Rattle.dss_frames.specs.declared.fault.FrameFault.{FrameFault};
 
+pub use crate::writing::written_dss_is_read;
+
 /// Every text has exactly one reading: commands, and then what may still become one, or a fault.
 pub fn one_reading()
     ensures { (text : List ℕ) → HasOneReading text }

@@ -122,6 +122,3 @@ module _ (store : Store) (all : Doubts) where
 
 pub told_known : {T : Type 0} (r : Result T RestoreError) (e : RestoreError) (bs : List Branch) (x : List ℕ) → r ≡ Err e → e ≡ error.Known → RestoresUnit r bs x → IsSome (state_of bs x)
 told_known {T} r e bs x is told exact = subst (λ (y : Result T RestoreError). RestoresUnit y bs x) (is ∙ ap (λ (f : RestoreError). Err f) told) exact
-
-pub told_full : {T : Type 0} (r : Result T RestoreError) (e : RestoreError) (bs : List Branch) (x : List ℕ) → r ≡ Err e → e ≡ error.Full → RestoresUnit r bs x → (1024 ≤ length bs) ⊎ (256 ≤ in_doubt_count bs)
-told_full {T} r e bs x is told exact = (subst (λ (y : Result T RestoreError). RestoresUnit y bs x) (is ∙ ap (λ (f : RestoreError). Err f) told) exact).1

@@ -1,8 +1,7 @@
 -- What is read of a store's head and of its journal.
-use Rattle.std.proofs.Common.{◌≡◌, ℕ, ◌+◌, ◌≤◌, IsTrue, List, length, Result, Ok, Err, ◌∙◌, ap, subst, arith}
-use Rattle.half_store.specs.Active.{active_of}
+use Rattle.std.proofs.Common.{◌≡◌, ℕ, ◌+◌, ◌≤◌, IsTrue, Result, Err, ◌∙◌, ap, subst, arith}
 use Rattle.half_store.specs.Layout.{half_len, is_store_size, offset_of}
-use Rattle.half_store.specs.Opened.{IsBehindPages, Tells}
+use Rattle.half_store.specs.Opened.{IsBehindPages}
 use Rattle.half_store.specs.declared.active.Active.{Active}
 use Rattle.half_store.specs.declared.layout.Half.{Half}
 use Rattle.half_store.specs.declared.layout.Half.TheVariants.{First, Second}
@@ -12,7 +11,7 @@ use Rattle.unit_journal.specs.declared.errors.OpenError.{OpenError as JournalErr
 use Rattle.unit_journal.specs.declared.errors.OpenError.TheVariants.{Damaged}
 use Rattle.recovery.proofs.Reading.{half_large}
 use Rattle.unit_journal.specs.Adding.{IsPlace}
-use Rattle.durable_core.specs.Reads.{ArePagesInside, IsHead}
+use Rattle.durable_core.specs.Reads.{ArePagesInside}
 
 -- a half's end lies in the disk
 pub ends_in : (h size : ℕ) (half : Half) → 8192 + (h + h) ≤ size → offset_of h half + h ≤ size
@@ -40,13 +39,6 @@ pages_ok size a is behind =
       inside = omega (arith, behind.ends, ends);
       apart = omega (arith, behind.begins, behind.ends);
     }
-
--- the store that an image is
-pub is_head : (image : List ℕ) (r : Result Active HeadError) (a : Active) → r ≡ Ok a → Tells (active_of image) r → IsBehindPages (half_len (length image)) a → IsHead image a
-is_head image r a is tells behind = record {
-  active = subst (λ (x : Result Active HeadError). Tells (active_of image) x) is tells;
-  journal = record { begins = behind.begins; ends = behind.ends };
-}
 
 -- damage is told
 pub no_damage : {T : Type 0} (r : Result T JournalError) (e : JournalError) (at : ℕ) → r ≡ Err e → e ≡ Damaged at → IsWhole r → ⊥

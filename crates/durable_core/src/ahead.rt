@@ -5,11 +5,8 @@ ghost use Rattle.durable_core.specs.Ahead.{StaysAhead};
 
 use crate::durable::DurableCore;
 use drda_disk::{Disk, Flushed, Flusher};
-use journal_recorder::{DiskRecorder, pages_are_kept};
+use journal_recorder::DiskRecorder;
 use rdb_core::Core;
-use recovery::images::{calls_go_on, calls_make_groups, calls_make_records, groups_stay};
-use recovery::laws::decisions_of_all_are_held;
-use recovery::step_laws::groups_are_recorded;
 use unit_records::{DeviceFailed, GroupCall};
 
 impl<D: Disk> DurableCore<D> {
@@ -24,13 +21,13 @@ impl<D: Disk> DurableCore<D> {
         ensures rests { StaysAhead D.is_modelled (shown_on D.life self.old) (shown_on D.life self.new) }
         ensures journaled { Journaled D.is_modelled (shown_on D.life self.old) (shown_on D.life self.new) }
     {
-        groups_are_recorded();
-        decisions_of_all_are_held();
-        groups_stay();
-        calls_make_records::<D>();
-        calls_make_groups::<D>();
-        calls_go_on::<D>();
-        pages_are_kept::<D>();
+        recovery::laws::groups_are_recorded();
+        recovery::laws::decisions_of_all_are_held();
+        recovery::laws::groups_stay();
+        recovery::laws::calls_make_records::<D>();
+        recovery::laws::calls_make_groups::<D>();
+        recovery::laws::calls_go_on::<D>();
+        journal_recorder::laws::pages_are_kept::<D>();
         if self.core.recorder().is_failed() {
             return None;
         }
@@ -47,10 +44,10 @@ impl<D: Disk> DurableCore<D> {
         ensures rests { StaysAhead D.is_modelled (shown_on D.life self.old) (shown_on D.life self.new) }
         ensures journaled { Journaled D.is_modelled (shown_on D.life self.old) (shown_on D.life self.new) }
     {
-        groups_stay();
-        calls_make_records::<D>();
-        calls_go_on::<D>();
-        pages_are_kept::<D>();
+        recovery::laws::groups_stay();
+        recovery::laws::calls_make_records::<D>();
+        recovery::laws::calls_go_on::<D>();
+        journal_recorder::laws::pages_are_kept::<D>();
         let recorder = self.core.recorder();
         if recorder.is_failed() {
             return;

@@ -16,13 +16,10 @@ use crate::durable::DurableCore;
 use crate::holding::held_at;
 use drda_disk::Disk;
 use half_store::Layout;
-use journal_recorder::{CheckpointError, heuristic_record, pages_are_kept, prepare_record};
+use journal_recorder::{CheckpointError, heuristic_record, prepare_record};
 use rdb_core::Core;
 use recovery::find_places;
-use recovery::images::{calls_go_on, calls_make_records, groups_stay};
-use recovery::laws::{doubts_are_laid, records_lead_to_sound_states};
 use std::alloc::AllocError;
-use store_check::{checkpoints_are_known, moments_hold};
 use unit_journal::Record;
 use unit_records::{DeviceFailed, Recorder};
 use xa_calls::Xid;
@@ -60,14 +57,14 @@ impl<D: Disk> DurableCore<D> {
         ensures told { Checkpoints D.is_modelled result (shown_on D.life self.old) (shown_on D.life self.new) }
         ensures journaled { Journaled D.is_modelled (shown_on D.life self.old) (shown_on D.life self.new) }
     {
-        moments_hold();
-        doubts_are_laid();
-        records_lead_to_sound_states();
-        checkpoints_are_known();
-        groups_stay();
-        calls_make_records::<D>();
-        calls_go_on::<D>();
-        pages_are_kept::<D>();
+        store_check::laws::moments_hold();
+        recovery::laws::doubts_are_laid();
+        recovery::laws::records_lead_to_sound_states();
+        store_check::laws::checkpoints_are_known();
+        recovery::laws::groups_stay();
+        recovery::laws::calls_make_records::<D>();
+        recovery::laws::calls_go_on::<D>();
+        journal_recorder::laws::pages_are_kept::<D>();
         if self.core.recorder.is_failed() {
             return Checkpointed::Closed;
         }

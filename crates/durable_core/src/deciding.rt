@@ -10,12 +10,7 @@ ghost use Rattle.durable_core.specs.Deciding.{Decides};
 use crate::durable::DurableCore;
 use drda_disk::Disk;
 use half_store::Layout;
-use journal_recorder::pages_are_kept;
-use recovery::images::{calls_make_records, records_stay};
-use recovery::laws::doubts_hold_their_decisions;
-use recovery::step_laws::heuristics_are_recorded;
 use unit_records::RecordError;
-use unit_records::laws::decisions_have_room;
 use xa_calls::Xid;
 use xa_manager::{BranchState, Decision};
 
@@ -46,12 +41,12 @@ impl<D: Disk> DurableCore<D> {
         ensures told { Decides xid.now decision result (shown_on D.life self.old) (shown_on D.life self.new) }
         ensures journaled { Journaled D.is_modelled (shown_on D.life self.old) (shown_on D.life self.new) }
     {
-        heuristics_are_recorded();
-        doubts_hold_their_decisions();
-        decisions_have_room();
-        records_stay();
-        calls_make_records::<D>();
-        pages_are_kept::<D>();
+        recovery::laws::heuristics_are_recorded();
+        recovery::laws::doubts_hold_their_decisions();
+        unit_records::laws::decisions_have_room();
+        recovery::laws::records_stay();
+        recovery::laws::calls_make_records::<D>();
+        journal_recorder::laws::pages_are_kept::<D>();
         if self.core.recorder().is_failed() {
             return Decided::Closed;
         }

@@ -13,11 +13,8 @@ ghost use Rattle.durable_core.specs.Steps.{Loses, Steps};
 use crate::plain_error::{PlainError, told};
 use core_calls::{Answer, CoreCall};
 use drda_disk::Disk;
-use journal_recorder::{DiskRecorder, pages_are_kept};
+use journal_recorder::DiskRecorder;
 use rdb_core::{Core, InDoubt, PlainState};
-use recovery::images::{calls_make_records, records_stay};
-use recovery::laws::doubts_hold_their_decisions;
-use recovery::step_laws::steps_are_recorded;
 use std::marker::Model;
 use unit_records::GroupCall;
 
@@ -67,11 +64,11 @@ impl<D: Disk> DurableCore<D> {
         ensures step { Steps D.is_modelled (shown_on D.life self.old) conversation (call_of call.now) (answer_of result) (shown_on D.life self.new) }
         ensures journaled { Journaled D.is_modelled (shown_on D.life self.old) (shown_on D.life self.new) }
     {
-        steps_are_recorded();
-        doubts_hold_their_decisions();
-        records_stay();
-        calls_make_records::<D>();
-        pages_are_kept::<D>();
+        recovery::laws::steps_are_recorded();
+        recovery::laws::doubts_hold_their_decisions();
+        recovery::laws::records_stay();
+        recovery::laws::calls_make_records::<D>();
+        journal_recorder::laws::pages_are_kept::<D>();
         if self.core.recorder().is_failed() {
             return Answer::Closed;
         }
@@ -84,11 +81,11 @@ impl<D: Disk> DurableCore<D> {
         ensures step { Loses (shown_on D.life self.old) conversation (answer_of result) (shown_on D.life self.new) }
         ensures journaled { Journaled D.is_modelled (shown_on D.life self.old) (shown_on D.life self.new) }
     {
-        steps_are_recorded();
-        doubts_hold_their_decisions();
-        records_stay();
-        calls_make_records::<D>();
-        pages_are_kept::<D>();
+        recovery::laws::steps_are_recorded();
+        recovery::laws::doubts_hold_their_decisions();
+        recovery::laws::records_stay();
+        recovery::laws::calls_make_records::<D>();
+        journal_recorder::laws::pages_are_kept::<D>();
         let recorder = self.core.recorder();
         if recorder.is_failed() {
             return Answer::Closed;
@@ -150,9 +147,9 @@ impl<D: Disk> DurableCore<D> {
         ensures copies { Copies D.is_modelled result (shown_on D.life self.old) (shown_on D.life self.new) }
         ensures journaled { Journaled D.is_modelled (shown_on D.life self.old) (shown_on D.life self.new) }
     {
-        doubts_hold_their_decisions();
-        records_stay();
-        calls_make_records::<D>();
+        recovery::laws::doubts_hold_their_decisions();
+        recovery::laws::records_stay();
+        recovery::laws::calls_make_records::<D>();
         let recorder = self.core.recorder();
         if recorder.is_failed() {
             return Err(PlainError::Closed);
@@ -171,7 +168,7 @@ impl<D: Disk> DurableCore<D> {
     pub fn is_durable(&self)
         ensures { IsTrue D.is_modelled → self.now.is_failed ≡ false → IsDurable (shown_on D.life self.now) }
     {
-        calls_make_records::<D>();
+        recovery::laws::calls_make_records::<D>();
         let _name = &self.name;
     }
 }

@@ -11,7 +11,6 @@ ghost use Rattle.durable_core.specs.Holders.{IsHolder, TellsLast};
 use recovery::PreparedUnit;
 use std::alloc::{AllocError, Global};
 use unit_journal::Record;
-use unit_records::laws::records_have_one_reading;
 use unit_records::{ReadError, UnitRecord};
 use xa_calls::Xid;
 
@@ -38,7 +37,7 @@ pub(crate) fn last_holder(
 fn holds_for_one(alloc: Global, entry: &Record, units: &[PreparedUnit]) -> Result<bool, AllocError>
     ensures { IfOk result (λ holds. IsTrue holds ↔ HoldsForOne (doubts_in units.now) (entry_of entry.now)) }
 {
-    records_have_one_reading();
+    unit_records::laws::records_have_one_reading();
     let said = UnitRecord::read(alloc, entry.kind, entry.body.as_slice());
     is_holder(units, &said)
 }

@@ -19,13 +19,8 @@ use drda_disk::{Disk, DiskFault};
 use half_store::Active;
 use journal_recorder::{CACHED_PAGES, DiskRecorder};
 use rdb_core::Core;
-use recovery::images::{images_open_there, images_open_to_one_state};
-use recovery::laws::{records_lead_one_way, records_lead_to_sound_states};
-use recovery::step_laws::openings_are_kept;
 use row_pages::{PageCache, Pager};
 use std::alloc::{AllocError, Global};
-use store_check::checkpoints_are_known;
-use unit_journal::a_region_has_one_reading;
 
 /// Opens the store of a disk: the head, the tables of the last checkpoint on the pages of the active
 /// half, the records of the journal from its first on, and the branches in doubt with their claims.
@@ -85,7 +80,7 @@ fn open_paged<D: Disk>(alloc: Global, pager: Pager<D>) -> Result<DurableCore<D>,
     ensures stays { Stays (D.life pager) (D.life (disk_in result)) }
     ensures cause { CountsOpen result (D.life pager).faults (D.life (disk_in result)).faults }
 {
-    images_open_to_one_state();
+    recovery::laws::images_open_to_one_state();
     let mut pager = pager;
     match read_store(alloc, &mut pager) {
         Ok(found) => begin(alloc, pager, found),
@@ -105,11 +100,11 @@ fn read_store<D: Disk>(alloc: Global, pager: &mut Pager<D>) -> Result<Found, Ope
     ensures stays { Stays (D.life pager.old) (D.life pager.new) }
     ensures cause { Counts result (D.life pager.old).faults (D.life pager.new).faults }
 {
-    records_lead_one_way();
-    records_lead_to_sound_states();
-    images_open_there();
-    checkpoints_are_known();
-    a_region_has_one_reading();
+    recovery::laws::records_lead_one_way();
+    recovery::laws::records_lead_to_sound_states();
+    recovery::laws::images_open_there();
+    store_check::laws::checkpoints_are_known();
+    unit_journal::laws::a_region_has_one_reading();
     let active = read_head(alloc, pager)?;
     let tables = read_tables(alloc, pager, &active)?;
     let Active {
@@ -149,7 +144,7 @@ fn begin<D: Disk>(
     ensures err { IfErr result (λ refused. refused.error ≡ OpenError.NoMemory) }
     ensures disk { disk_in result ≡ pager }
 {
-    openings_are_kept();
+    recovery::laws::openings_are_kept();
     let Found {
         name,
         layout,

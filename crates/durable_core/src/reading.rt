@@ -28,7 +28,7 @@ use paged_tables::PagedTables;
 use recovery::{PreparedUnit, Replay, ReplayError, replay};
 use row_pages::Pager;
 use std::alloc::Global;
-use store_check::{CheckError, checkpoints_are_known};
+use store_check::CheckError;
 use unit_journal::{Journal, Record};
 
 /// The name of a store, the layout of its active half, its journal, its committed tables over their pages, and its
@@ -58,7 +58,7 @@ pub(crate) fn read_tables<D: Disk>(
     ensures stays { Stays (D.life pager.old) (D.life pager.new) }
     ensures cause { Counts result (D.life pager.old).faults (D.life pager.new).faults }
 {
-    checkpoints_are_known();
+    store_check::laws::checkpoints_are_known();
     match open_checkpoint(alloc, pager, active) {
         Ok(tables) => Ok(tables),
         Err(CheckError::Damaged { at }) => Err(OpenError::Damaged { at }),

@@ -5,11 +5,6 @@ ghost use Rattle.durable_core.specs.Together.{MakeTogether};
 
 use crate::durable::DurableCore;
 use drda_disk::Disk;
-use journal_recorder::pages_are_kept;
-use recovery::images::{calls_go_on, calls_make_groups, calls_make_records, groups_stay};
-use recovery::laws::decisions_of_all_are_held;
-use recovery::step_laws::groups_are_recorded;
-use unit_records::laws::calls_go_together;
 use unit_records::{GroupCall, GroupError};
 
 /// What became of calls that were to be made together.
@@ -35,14 +30,14 @@ impl<D: Disk> DurableCore<D> {
         ensures makes { MakeTogether (shown_on D.life self.old) calls.now result (shown_on D.life self.new) }
         ensures journaled { Journaled D.is_modelled (shown_on D.life self.old) (shown_on D.life self.new) }
     {
-        calls_go_together();
-        groups_are_recorded();
-        decisions_of_all_are_held();
-        groups_stay();
-        calls_make_records::<D>();
-        calls_make_groups::<D>();
-        calls_go_on::<D>();
-        pages_are_kept::<D>();
+        unit_records::laws::calls_go_together();
+        recovery::laws::groups_are_recorded();
+        recovery::laws::decisions_of_all_are_held();
+        recovery::laws::groups_stay();
+        recovery::laws::calls_make_records::<D>();
+        recovery::laws::calls_make_groups::<D>();
+        recovery::laws::calls_go_on::<D>();
+        journal_recorder::laws::pages_are_kept::<D>();
         if self.core.recorder().is_failed() {
             return Together::Closed;
         }

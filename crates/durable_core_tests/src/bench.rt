@@ -211,10 +211,10 @@ impl Calls for Bench {
         self.answered(answer)
     }
 
-    // `open` opens the disk; `fails N` and `breaks N` do, where the call behind so many fails, or all; `stops N` does where the one behind so
-    // many fails that come behind the opening, and `worn N AT BYTES` where from the one behind so many on reads give these bytes at a place.
-    // `calls` tells how many calls the disk had since it was opened, and closes the store. From `checkpoints N` on a checkpoint is made
-    // behind each so many calls of conversations, or behind none.
+    // `open` opens the disk; `fails N` and `breaks N` do, where the call behind so many fails, or all; `stops N` does where the one behind
+    // so many fails that come behind the opening, and `worn N AT BYTES` where from the one behind so many on reads give these bytes at a
+    // place. `calls` tells how many calls the disk had since it was opened, and closes the store. From `checkpoints N` on a checkpoint is
+    // made behind each so many calls of conversations, or behind none.
     fn do_other(
         &mut self,
         _scripts: &Scripts,

@@ -62,8 +62,8 @@ fn phase_named(word: &str) -> Option<Phase> {
     }
 }
 
-// A call of a group: that the conversation of this number commits, or a phase and the number of a branch behind =, for which the conversation
-// of that number asks.
+// A call of a group: that the conversation of this number commits, or a phase and the number of a branch behind =, for which the
+// conversation of that number asks.
 fn group_call(alloc: Global, word: &str) -> Option<GroupCall> {
     let Some((name, number)) = word.split_once('=') else {
         return Some(GroupCall {
@@ -157,10 +157,10 @@ fn told_copy(core: &mut Core) -> &'static str {
     }
 }
 
-/// `together` makes calls together: each is C, the commit of the conversation C, or PHASE=N, by which the conversation N asks for a phase of the
-/// branch =N. `ahead` lays their records ahead of that, and `settle` settles the disk. `decide XID commit` or `rollback` decides a branch heuristically, `checkpoint` makes a checkpoint, `room` tells the store's name and
-/// the room of its journal, `layout` the layout of its active half, `in_doubt` and `branches` which branches are in doubt, and `copy` copies
-/// the state.
+/// `together` makes calls together: each is C, the commit of the conversation C, or PHASE=N, by which the conversation N asks for a phase
+/// of the branch =N. `ahead` lays their records ahead of that, and `settle` settles the disk. `decide XID commit` or `rollback` decides a
+/// branch heuristically, `checkpoint` makes a checkpoint, `room` tells the store's name and the room of its journal, `layout` the layout of
+/// its active half, `in_doubt` and `branches` which branches are in doubt, and `copy` copies the state.
 pub fn tell(
     alloc: Global,
     core: &mut Core,

@@ -68,12 +68,6 @@ longer seen field (Some more) whole n le h =
     let two = length-append seen (field ∷ []) in
     subst (λ (w : Option (List Field)). IfSome w (λ fields. n < length fields)) h (omega arith)
 
--- one more field is there, and perhaps others
-pub field_more : (left : ℕ) (seen : List Field) (field : Field) (rest behind : List ℕ) (whole : Option (List Field)) (n : ℕ) → 0 < left → Some (field, behind) ≡ field_at rest → n ≤ length seen
-    → behind_fields seen (fields_at left rest) ≡ whole → IfSome whole (λ fields. n < length fields)
-field_more left seen field rest behind whole n some is le h =
-    longer seen field (fields_at (left - 1) behind) whole n le (field_step left seen (seen ++ field ∷ []) field rest behind whole some is refl h)
-
 head_by : (o : Option ℕ) (bytes behind : List ℕ) (count : ℕ) (otherwise : Option (List Field)) → option_map {U = ℕ × List ℕ} (λ n. (n, bytes)) o ≡ Some (count, behind) → goes_on o (λ n. fields_at n bytes) otherwise ≡ fields_at count behind
 head_by None bytes behind count otherwise h = absurd cc
 head_by (Some n) bytes behind count otherwise h =
@@ -121,9 +115,6 @@ pub closed : (left : ℕ) (seen : List Field) (rest : List ℕ) (whole : Option 
     → behind_fields seen (fields_at left rest) ≡ whole → (bytes_eq closing (take 6 rest) ≡ true → whole ≡ Some seen) × (bytes_eq closing (take 6 rest) ≡ false → whole ≡ None)
 closed zero seen rest whole none is h = closes_by (bytes_eq closing (take 6 rest)) seen whole (ap (behind_fields seen) (sym (at_end rest (sym is))) ∙ h)
 closed (suc n) seen rest whole none is h = absurd (omega arith)
-
-pub run_out : (left : ℕ) (seen : List Field) (rest : List ℕ) (whole : Option (List Field)) → rest ≡ [] → behind_fields seen (fields_at left rest) ≡ whole → whole ≡ None
-run_out left seen rest whole none h = sym h ∙ ap (λ (l : List ℕ). behind_fields seen (fields_at left l)) none
 
 -- ---- a row
 

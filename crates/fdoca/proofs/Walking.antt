@@ -1,11 +1,10 @@
 -- A row is walked column by column, and some of its values are sent.
-use Rattle.std.proofs.Common.{◌≡◌, ℕ, zero, suc, ◌+◌, ◌<◌, ◌≤◌, List, [], ◌∷◌, ◌++◌, true, refl, sym, ap, ◌∙◌, map, length, take, drop, get_or, Some, option_map, arith, add-one, ◌*◌, append_assoc, length-append, nat_lt, ◌&&◌, false}
+use Rattle.std.proofs.Common.{◌≡◌, ℕ, zero, suc, ◌+◌, ◌<◌, ◌≤◌, List, [], ◌∷◌, ◌++◌, true, refl, sym, ap, ◌∙◌, map, length, take, drop, get_or, Some, option_map, arith, add-one, ◌*◌, append_assoc, length-append, nat_lt}
 use Rattle.std.specs.List.{cons_option, filter_map, flat_map, list_all, slice_get}
 use Rattle.std.proofs.Math.Seq.{take-append_seam}
 use Rattle.std.proofs.lemmas.List.{length-map, take-append-le}
 use Rattle.std.proofs.lemmas.Bool.{ltb-true}
-use Rattle.std.proofs.lemmas.Bool.Decides.{nat_tests}
-use Rattle.std.specs.Prelude.{is_some, Result, Ok, Err, OnErr, vec_len, vec_capacity}
+use Rattle.std.specs.Prelude.{Result, Ok, Err, OnErr, vec_len, vec_capacity}
 use Rattle.std.specs.Global.{Vec}
 use Rattle.std.proofs.lemmas.Option.{slice_get-map, slice_get_read}
 use Rattle.row_values.specs.declared.column.Column.{Column as CodeColumn}
@@ -194,26 +193,3 @@ described_step columns places i place column out now field whole p q field_is no
     ∙ h
 
 -- ---- places of a schema
-
-none_below : (i : ℕ) → false ≡ nat_lt i 0
-none_below i = grind (arith, nat_tests)
-
-some_below : (n : ℕ) → true ≡ nat_lt 0 (suc n)
-some_below n = grind (arith, nat_tests)
-
-shift : (i n : ℕ) → nat_lt i n ≡ nat_lt (suc i) (suc n)
-shift i n = grind (arith, nat_tests)
-
-place_by : {X : Type 0} (xs : List X) (i : ℕ) → is_some (slice_get xs i) ≡ nat_lt i (length xs)
-place_by [] i = none_below i
-place_by (x ∷ xs) zero = some_below (length xs)
-place_by (x ∷ xs) (suc i) = place_by xs i ∙ shift i (length xs)
-
--- the places of columns are those below their number
-pub below_count : (columns : List Column) (shown : List CodeColumn) (places : List ℕ) → map column_of shown ≡ columns → list_all (λ p. is_some (slice_get columns p)) places ≡ list_all (λ p. nat_lt p (length shown)) places
-below_count columns shown [] same = refl
-below_count columns shown (p ∷ places) same =
-    let count : length columns ≡ length shown = ap length (sym same) ∙ length-map shown column_of in
-    let here : is_some (slice_get columns p) ≡ nat_lt p (length shown) = place_by columns p ∙ ap (nat_lt p) count in
-    ap (λ b. b && list_all (λ q. is_some (slice_get columns q)) places) here
-    ∙ ap (λ b. nat_lt p (length shown) && b) (below_count columns shown places same)

@@ -6,7 +6,7 @@
 mod descriptor;
 mod fault;
 mod field;
-mod laws;
+pub mod laws;
 mod measuring;
 mod row;
 mod values;
@@ -15,9 +15,6 @@ mod writing;
 pub use descriptor::Descriptor;
 pub use fault::DescriptorFault;
 pub use field::{Field, FieldType};
-pub use laws::{
-    answers_are_read_back, descriptors_have_one_reading, readings_are_found, rows_have_one_reading,
-};
 pub use measuring::row_length;
 pub use row::read_row;
 pub use values::Values;

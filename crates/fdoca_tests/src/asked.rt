@@ -94,7 +94,8 @@ impl Asked {
         Some(())
     }
 
-    // `schema` and `row` lay those of answers, `places` and `answer` ask of places, and `read`, `changed` and `fronts` of a descriptor and a row.
+    // `schema` and `row` lay those of answers, `places` and `answer` ask of places, and `read`, `changed` and `fronts` of a descriptor and
+    // a row.
     fn answer(&mut self, verb: &str, rest: &str) -> Option<()> {
         match verb {
             "schema" => self.lay_schema(rest),

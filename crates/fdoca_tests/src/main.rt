@@ -1,5 +1,5 @@
-//! Tests of fdoca: descriptors and rows of parameters and of answers. What each line of standard input comes to goes to standard output, which is
-//! compared.
+//! Tests of fdoca: descriptors and rows of parameters and of answers. What each line of standard input comes to goes to standard output,
+//! which is compared.
 #![tactic(auto)]
 
 mod answers;

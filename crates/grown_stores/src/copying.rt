@@ -16,8 +16,8 @@ use store_files::Fault;
 /// So many bytes are copied at once.
 const AT_ONCE: usize = 1_048_576;
 
-/// Copies so many bytes of a disk, from an offset on, to the first half of another one. A crash meanwhile leaves no store there. Memory for a
-/// mebibyte may be refused.
+/// Copies so many bytes of a disk, from an offset on, to the first half of another one. A crash meanwhile leaves no store there. Memory for
+/// a mebibyte may be refused.
 pub(crate) fn copy<D: Disk, E: Disk>(
     alloc: Global,
     old: &mut D,

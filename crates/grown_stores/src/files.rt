@@ -4,15 +4,14 @@ ghost use Rattle.std.specs.Prelude.{IfErr, OnOk};
 ghost use Rattle.grown_stores.specs.Growing.{GrowsFile, IsGrownFile, IsNotGrown};
 
 use crate::growing::{fits, grow};
-use crate::laws::grown_stores_open;
 use drda_disk::Disk;
 use std::alloc::Global;
 use std::io::Write;
 use store_files::{Fault, StoreFiles, open_file, tell};
 
-/// Moves the store of a path, which is not served, into a new file of so many bytes, and says so: its name, its tables and its units in doubt,
-/// with their outcomes and their claims. The old file is not written. A crash on the way leaves no store in the new file, or all of it,
-/// whatever is answered.
+/// Moves the store of a path, which is not served, into a new file of so many bytes, and says so: its name, its tables and its units in
+/// doubt, with their outcomes and their claims. The old file is not written. A crash on the way leaves no store in the new file, or all of
+/// it, whatever is answered.
 ///
 /// Faults: those of opening the store; `NoRoom`, the size is no store's, or one of a smaller one; `Device`, the new file can't be
 /// made or written, or is there already; `NoMemory`. Of what was not moved no file is left.
@@ -41,7 +40,7 @@ fn move_file<F: StoreFiles>(
     ensures grown { OnOk result (IsGrownFile F.Disk.is_modelled F.Disk.life F.calls files.old path.now new.now size files.new) }
     ensures not { IfErr result (λ fault. IsNotGrown F.Disk.is_modelled F.Disk.life F.calls files.old path.now new.now size fault files.new) }
 {
-    grown_stores_open();
+    crate::laws::grown_stores_open();
     let core = open_file(alloc, files, path)?;
     let mut old = core.into_disk();
     if !fits(old.size(), size as usize) {

@@ -22,8 +22,8 @@ const ANY_NAME: &str = "RDB";
 /// Moves a store into another disk, whose halves are as long at least, and which has all its blocks then: its name and the bytes of its
 /// active half, and so all that it opens to. The old disk is only read. What was written is opened in the end, and found to be that store.
 ///
-/// `NoRoom` comes where the other disk has shorter halves, or no store's size, before anything is written; else memory may be refused, or
-/// a device fails. On a disk that did not begin as a store a crash at any moment leaves no store, or the whole of it, whatever this answers.
+/// `NoRoom` comes where the other disk has shorter halves, or no store's size, before anything is written; else memory may be refused, or a
+/// device fails. On a disk that did not begin as a store a crash at any moment leaves no store, or the whole of it, whatever this answers.
 pub fn grow<D: Disk, E: Disk>(alloc: Global, old: &mut D, new: &mut E) -> Result<(), Fault>
     ensures grown { OnOk result (IsTrue D.is_modelled → IsTrue E.is_modelled → Only (E.life new.new) × IsGrown (D.life old.old).seen (E.life new.new).seen) }
     ensures moments { IsTrue D.is_modelled → IsTrue E.is_modelled → IsUnmarked (E.life new.old) → LeavesOnly (E.life new.old) (E.life new.new) (IsNoneOrGrown (D.life old.old).seen) }

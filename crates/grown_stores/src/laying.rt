@@ -6,8 +6,8 @@ ghost use Rattle.drda_disk.specs.Layout.{page_bytes};
 ghost use Rattle.half_store.specs.Active.{is_marked};
 ghost use Rattle.half_store.specs.Fresh.{IsUnmarked, head_bytes};
 
-use drda_disk::{Disk, DiskFault};
-use half_store::{CLOSED, MARK_BYTES, push_head};
+use drda_disk::{CLOSED_GATE, Disk, DiskFault};
+use half_store::{MARK_BYTES, push_head};
 use std::alloc::{AllocError, Global};
 
 /// The head of a store of this size and name, behind its mark.
@@ -32,7 +32,7 @@ pub(crate) fn lay<D: Disk>(disk: &mut D, head: &[u8], second_at: usize) -> Resul
     ensures cause { CountsFault result (D.life disk.old).faults (D.life disk.new).faults }
 {
     disk.write_at(MARK_BYTES, head)?;
-    disk.write_at(second_at, &[CLOSED])?;
+    disk.write_at(second_at, &[CLOSED_GATE])?;
     disk.sync()?;
     Ok(())
 }

@@ -4,10 +4,9 @@
 mod copying;
 mod files;
 mod growing;
-mod laws;
+pub mod laws;
 mod laying;
 mod moving;
 
 pub use files::grow_file;
 pub use growing::grow;
-pub use laws::grown_stores_open;

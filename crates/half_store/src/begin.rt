@@ -8,10 +8,9 @@ ghost use Rattle.half_store.specs.Active.{active_of};
 ghost use Rattle.half_store.specs.Opened.{store_of};
 ghost use Rattle.half_store.specs.Writing.{IsEmpty, IsKept, IsWriting, half_of, half_bytes_of, IsClosing, SaysLast};
 
-use crate::header::CLOSED;
 use crate::layout::half_bytes;
 use crate::{Active, ImageWriter};
-use drda_disk::{Disk, DiskError, DiskFault, OPEN_GATE, write_through};
+use drda_disk::{CLOSED_GATE, Disk, DiskError, DiskFault, OPEN_GATE, write_through};
 
 /// Closes the gate at an offset where it is open, and syncs. A closed one is not written, since a
 /// torn write could open it.
@@ -29,7 +28,7 @@ fn close_gate<D: Disk>(disk: &mut D, at: usize) -> Result<(), DiskFault>
         disk.sync()?;
         return Ok(());
     }
-    write_through(disk, at, &[CLOSED])?;
+    write_through(disk, at, &[CLOSED_GATE])?;
     Ok(())
 }
 

@@ -14,9 +14,6 @@ const LAYOUT_AT: usize = 21;
 /// The bytes of a gate and a header.
 const HEADER_BYTES: usize = 25;
 
-/// What is written to close a gate.
-pub const CLOSED: u8 = 0;
-
 /// How the journal of a half is laid out: which records it may have, and how many bytes a branch in
 /// doubt holds back.
 #[derive(Clone, Copy, Debug, PartialEq, Eq)]

@@ -19,7 +19,7 @@ pub use errors::{FormatError, OpenError};
 pub use formatting::{format, is_store};
 pub use fresh::push_head;
 pub use head::{MARK, MARK_BYTES};
-pub use header::{CLOSED, Header, Layout};
+pub use header::{Header, Layout};
 pub use image::ImageWriter;
 pub use layout::{FIRST_AT, Half, half_bytes};
 pub use opening::open;

@@ -101,7 +101,8 @@ fn switch<D: Disk>(
 }
 
 impl Image {
-    /// Writes so many pages that are filled with a byte, up to the first that is refused. Tells how many the image has then, and the answer.
+    /// Writes so many pages that are filled with a byte, up to the first that is refused. Tells how many the image has then, and the
+    /// answer.
     pub fn write<D: Disk>(
         &mut self,
         alloc: Global,

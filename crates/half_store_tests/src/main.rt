@@ -1,5 +1,5 @@
-//! Tests of half_store. Each line of standard input has steps, which semicolons part, for one disk: a store is made on it, changed, opened and
-//! written anew. What each step tells goes to standard output, which is compared.
+//! Tests of half_store. Each line of standard input has steps, which semicolons part, for one disk: a store is made on it, changed, opened
+//! and written anew. What each step tells goes to standard output, which is compared.
 #![tactic(auto)]
 
 mod images;

@@ -94,9 +94,9 @@ impl Store {
         }
     }
 
-    /// Does a step, and tells what it comes to. `disk` is one of zeros, `format` makes a store, `put` changes bytes and `stop` the device; `begin`,
-    /// `pages` and `switch` write the other half. `open` tells what stands there, `with` what with other bytes, and `left` and `either` what
-    /// crashes leave.
+    /// Does a step, and tells what it comes to. `disk` is one of zeros, `format` makes a store, `put` changes bytes and `stop` the device;
+    /// `begin`, `pages` and `switch` write the other half. `open` tells what stands there, `with` what with other bytes, and `left` and
+    /// `either` what crashes leave.
     pub fn answer(&mut self, step: &str, out: &mut String) -> Result<(), AllocError> {
         let (verb, rest) = step.split_once(' ').unwrap_or((step, ""));
         let (number, _) = number_in(rest);

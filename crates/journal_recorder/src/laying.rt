@@ -15,7 +15,6 @@ use std::alloc::{AllocError, Global};
 use tables::Change;
 use unit_journal::{HEAD_BYTES, Kind, LaidRecord};
 use unit_locks::Claim;
-use unit_records::laws::decisions_have_room;
 use unit_records::{
     RecordContents, RecordError, commit_length, decide_length, forget_length, held_for_decision,
     held_for_forgetting, held_in_doubt, prepare_length, write_commit, write_decide, write_forget,
@@ -113,7 +112,7 @@ pub(crate) fn lay_prepare(
 fn lay_decide(alloc: Global, xid: &Xid, decision: Decision) -> Result<LaidRecord, AllocError>
     ensures { (layout : LayoutIs) (room : _) → IfOk result (λ laid. IsLaid layout (decided xid.now decision) room (entry_in laid)) }
 {
-    decisions_have_room();
+    unit_records::laws::decisions_have_room();
     lay_decision(alloc, Kind::Decide, xid, decision)
 }
 
@@ -125,7 +124,7 @@ pub(crate) fn lay_heuristic(
 ) -> Result<LaidRecord, AllocError>
     ensures { (layout : LayoutIs) (room : _) → IfOk result (λ laid. IsLaid layout (heuristic xid.now decision) room (entry_in laid)) }
 {
-    decisions_have_room();
+    unit_records::laws::decisions_have_room();
     lay_decision(alloc, Kind::Heuristic, xid, decision)
 }
 
@@ -148,7 +147,7 @@ fn lay_decision(
 fn lay_forget(alloc: Global, xid: &Xid) -> Result<LaidRecord, AllocError>
     ensures { (layout : LayoutIs) (room : _) → IfOk result (λ laid. IsLaid layout (forgotten xid.now) room (entry_in laid)) }
 {
-    decisions_have_room();
+    unit_records::laws::decisions_have_room();
     let mut bytes = LaidRecord::begin(alloc, forget_length(xid))?;
     write_forget(&mut bytes, xid)?;
     LaidRecord::finish(Kind::Forget, bytes)

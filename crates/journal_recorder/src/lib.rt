@@ -3,7 +3,7 @@
 
 mod ahead;
 mod checkpointing;
-mod laws;
+pub mod laws;
 mod laying;
 mod laying_all;
 mod made;
@@ -11,6 +11,5 @@ mod reading;
 mod recorder;
 
 pub use checkpointing::{CheckpointError, heuristic_record, prepare_record};
-pub use laws::pages_are_kept;
 pub use reading::CACHED_PAGES;
 pub use recorder::DiskRecorder;

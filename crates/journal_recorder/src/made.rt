@@ -17,7 +17,8 @@ impl Model for RecordGroups {
     ghost view = { λ _. none_made };
 }
 
-/// The records that were made so far, and those that were begun, in their order. Records that are made at once are one group. It takes no memory.
+/// The records that were made so far, and those that were begun, in their order. Records that are made at once are one group. It takes no
+/// memory.
 #[derive(Drop)]
 pub(crate) struct MadeRecords {
     pub(crate) groups: GhostValue<RecordGroups>,

@@ -76,12 +76,13 @@ impl Bench {
         Some(())
     }
 
-    // `body KIND BYTES` lays the record of a kind. `one LENGTH CALLS` and `two LENGTH CALLS` are recorders of a layout with an empty journal of
-    // so many bytes, and `half CALLS` that of a store of layout 1; each device fails behind so many calls. `make KINDS` makes the records of
-    // these kinds up to the first that is not made, `group` three of them together, and `ahead` lays three ahead; `settle` and `rest`
-    // go on; `checkpoint HELD` makes a checkpoint that holds so many bytes back. `found` tells which records the disk has, and `laid KIND` the record that is laid behind a checkpoint. `schema` lays the
-    // schema of the tables; `create NAME`, `put NAME VALUES` and `remove NAME KEY` change them in memory, and `row NAME KEY` and
-    // `rows NAME` tell rows; `fail` says of what was read last that it is no row of its table.
+    // `body KIND BYTES` lays the record of a kind. `one LENGTH CALLS` and `two LENGTH CALLS` are recorders of a layout with an empty
+    // journal of so many bytes, and `half CALLS` that of a store of layout 1; each device fails behind so many calls. `make KINDS` makes
+    // the records of these kinds up to the first that is not made, `group` three of them together, and `ahead` lays three ahead; `settle`
+    // and `rest` go on; `checkpoint HELD` makes a checkpoint that holds so many bytes back. `found` tells which records the disk has, and
+    // `laid KIND` the record that is laid behind a checkpoint. `schema` lays the schema of the tables; `create NAME`, `put NAME VALUES` and
+    // `remove NAME KEY` change them in memory, and `row NAME KEY` and `rows NAME` tell rows; `fail` says of what was read last that it is
+    // no row of its table.
     fn answer(&mut self, step: &str, out: &mut String) -> Option<()> {
         let (verb, rest) = step.split_once(' ').unwrap_or((step, ""));
         match verb {

@@ -9,7 +9,7 @@ ghost use Rattle.journal_recorder.specs.Recording.{disk_of, has_failed, journal_
 use crate::records::released_by;
 use ahead_view::{ReadError, Source};
 use drda_disk::Disk;
-use journal_recorder::{CheckpointError, DiskRecorder, pages_are_kept};
+use journal_recorder::{CheckpointError, DiskRecorder};
 use paged_tables::{JudgedRows, PagedTables};
 use std::alloc::{AllocError, Global};
 use std::marker::Model;
@@ -68,7 +68,7 @@ impl<D: Disk> Keeper<D> {
 
     /// Records it.
     pub fn record(&mut self, saying: RecordContents<'_>) -> Result<(), RecordError> {
-        pages_are_kept::<D>();
+        journal_recorder::laws::pages_are_kept::<D>();
         if !may_record(&self.recorder, released_by(self.recorder.layout(), saying)) {
             return Err(RecordError::NoMemory);
         }
@@ -85,7 +85,7 @@ impl<D: Disk> Keeper<D> {
         second: RecordContents<'_>,
         third: RecordContents<'_>,
     ) -> Result<(), GroupError> {
-        pages_are_kept::<D>();
+        journal_recorder::laws::pages_are_kept::<D>();
         let layout = self.recorder.layout();
         let release = released_by(layout, first)
             + released_by(layout, second)
@@ -107,7 +107,7 @@ impl<D: Disk> Keeper<D> {
         second: RecordContents<'_>,
         third: RecordContents<'_>,
     ) -> Result<bool, DeviceFailed> {
-        pages_are_kept::<D>();
+        journal_recorder::laws::pages_are_kept::<D>();
         let layout = self.recorder.layout();
         let release = released_by(layout, first)
             + released_by(layout, second)
@@ -123,7 +123,7 @@ impl<D: Disk> Keeper<D> {
 
     /// Settles, by a flush from outside.
     pub fn settle(&mut self) -> Result<(), DeviceFailed> {
-        pages_are_kept::<D>();
+        journal_recorder::laws::pages_are_kept::<D>();
         if self.recorder.is_failed() {
             return Err(DeviceFailed);
         }
@@ -136,7 +136,7 @@ impl<D: Disk> Keeper<D> {
 
     /// Gives up what was laid, and settles.
     pub fn rest(&mut self) -> Result<(), DeviceFailed> {
-        pages_are_kept::<D>();
+        journal_recorder::laws::pages_are_kept::<D>();
         if self.recorder.is_failed() {
             return Err(DeviceFailed);
         }
@@ -150,7 +150,7 @@ impl<D: Disk> Keeper<D> {
     pub fn checkpoint(&mut self, held: usize) -> Result<(), CheckpointError>
         requires { D.is_modelled ≡ false }
     {
-        pages_are_kept::<D>();
+        journal_recorder::laws::pages_are_kept::<D>();
         if !may_record(&self.recorder, 0) {
             return Err(CheckpointError::NoMemory);
         }
@@ -163,7 +163,7 @@ impl<D: Disk> Keeper<D> {
 
     /// Makes a change of the tables in memory.
     pub fn change(&mut self, change: Change) -> Result<(), AllocError> {
-        pages_are_kept::<D>();
+        journal_recorder::laws::pages_are_kept::<D>();
         let mut changes = Vec::new(self.alloc);
         changes.push(change)?;
         self.tables.reserve(self.alloc, &changes)?;

@@ -1,5 +1,5 @@
-//! Tests of journal_recorder. Each line of standard input has steps for a recorder, which semicolons part; what they come to goes to standard
-//! output, which is compared.
+//! Tests of journal_recorder. Each line of standard input has steps for a recorder, which semicolons part; what they come to goes to
+//! standard output, which is compared.
 #![tactic(auto)]
 
 mod bench;

@@ -2,13 +2,11 @@
 
 ghost use Rattle.key_map.specs.SortForm.{KeysKeepOrder, ValuesKeepOrder};
 
-use row_values::laws::{keys_are_ordered, values_have_their_bytes};
-
 /// The forms of values, and so those of keys of one schema, have the order of what they stand for.
 pub fn forms_keep_order()
     ensures values { ValuesKeepOrder }
     ensures keys { KeysKeepOrder }
 {
-    keys_are_ordered();
-    values_have_their_bytes();
+    row_values::laws::keys_are_ordered();
+    row_values::laws::values_have_their_bytes();
 }

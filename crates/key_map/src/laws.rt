@@ -3,6 +3,8 @@
 ghost use Rattle.key_map.specs.Merging.{ChangeFirst, ChangeHere, KnownByKeys, MergedAt, MergedInOrder, RowFirst};
 ghost use Rattle.key_map.specs.RowForm.{RowsHaveTheirForms};
 
+pub use crate::key_order::forms_keep_order;
+
 /// At each key there is what a change says of it, and without a change what was there; the keys
 /// are still in order.
 pub fn changes_win()

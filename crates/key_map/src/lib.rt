@@ -8,7 +8,7 @@ mod comparing;
 mod field;
 mod form;
 mod front;
-pub mod key_order;
+mod key_order;
 pub mod laws;
 mod overlay;
 mod rows;

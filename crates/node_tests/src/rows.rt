@@ -80,8 +80,8 @@ fn follow_lines(alloc: Global, node: &mut Bench, lines: &str, told: &mut String)
     Some(())
 }
 
-// A line that begins with # is a note. `event` and `times` append bytes of events. A number is a conversation's, which does what stands behind
-// it: its event comes at once. What else there is are runs over the events so far.
+// A line that begins with # is a note. `event` and `times` append bytes of events. A number is a conversation's, which does what stands
+// behind it: its event comes at once. What else there is are runs over the events so far.
 fn answer(
     alloc: Global,
     node: &mut Bench,

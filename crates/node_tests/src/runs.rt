@@ -58,8 +58,8 @@ impl Write for Taking {
     }
 }
 
-// How a node ends over these events, and how often reading failed: where they lie ready; by `slow` and `fails` they come byte by byte, and by `pieces` in pieces of this
-// size; by `fails` the stream fails behind them.
+// How a node ends over these events, and how often reading failed: where they lie ready; by `slow` and `fails` they come byte by byte, and
+// by `pieces` in pieces of this size; by `fails` the stream fails behind them.
 fn end_of(
     alloc: Global,
     node: &mut Bench,

@@ -18,7 +18,6 @@ ghost use Rattle.paged_checkpoints.specs.Laying.{all_shown, created_entry};
 
 use checkpoint_writer::count_entry;
 use drda_disk::{Disk, PAGE_BYTES};
-use key_map::laws::rows_have_their_forms;
 use paged_tables::{TableRef, TablesLeft};
 use row_pages::{PageCount, PageFault};
 use std::alloc::{AllocError, Global};
@@ -51,7 +50,7 @@ fn count_table<D: Disk>(
     ensures stays { Stays (D.life disk.old) (D.life disk.new) }
     ensures cause { CountsPageFault result (D.life disk.old).faults (D.life disk.new).faults }
 {
-    rows_have_their_forms();
+    key_map::laws::rows_have_their_forms();
     let TableRef { name, schema, rows } = table;
     let _columns = schema.columns();
     let count = rows.page_count(alloc, &SchemaKeys { schema }, disk)?;
@@ -74,7 +73,7 @@ fn count_most(
     ensures catalogue { (e : List ℕ × Stored) (next : ℕ) (rows : List (List ℕ)) → IsLent e table.entry
         → OnOk result (pages_with pages.new.catalogue rows ≡ pages_with pages.old.catalogue (entry_bytes (entry_of_table next (created_entry e)) ∷ rows)) }
 {
-    rows_have_their_forms();
+    key_map::laws::rows_have_their_forms();
     let TableRef { name, schema, rows } = table;
     let _columns = schema.columns();
     pages.tables = pages.tables.saturating_add(rows.most_pages());

@@ -17,13 +17,11 @@ ghost use Rattle.paged_checkpoints.specs.Opening.{OpensCheckpoint, StandsIn, Sta
 use checkpoint_writer::StoredTable;
 use drda_disk::{Disk, PAGE_BYTES};
 use half_store::Active;
-use paged_tables::{PagedTables, rows_stand_at_their_forms};
+use paged_tables::PagedTables;
 use row_pages::Pager;
 use row_values::is_name;
 use std::alloc::{AllocError, Global};
-use store_check::{
-    CheckError, CheckedTable, RowForms, check_half, checkpoints_are_known, whole_is_stored,
-};
+use store_check::{CheckError, CheckedTable, RowForms, check_half};
 
 /// Puts a table of a half behind those that are there. Damaged, at this offset, where it has no name.
 fn add_table(
@@ -39,7 +37,7 @@ fn add_table(
     ensures damaged { is_name (name_in checked) ≡ true → DamagedOnly ⊥ result }
     ensures cause { (n : ℕ) → CountsCheck result n n }
 {
-    rows_stand_at_their_forms();
+    paged_tables::laws::rows_stand_at_their_forms();
     let CheckedTable { table, pages } = checked;
     let StoredTable {
         name,
@@ -102,8 +100,8 @@ pub fn open_checkpoint<D: Disk>(
     ensures stays { Stays (D.life pager.old) (D.life pager.new) }
     ensures cause { CountsCheck result (D.life pager.old).faults (D.life pager.new).faults }
 {
-    checkpoints_are_known();
-    whole_is_stored();
+    store_check::laws::checkpoints_are_known();
+    store_check::laws::whole_is_stored();
     let tables = check_half(alloc, &RowForms, pager, active)?;
     let at = active.region.at - PAGE_BYTES * active.pages as usize;
     add_tables(alloc, at, tables)

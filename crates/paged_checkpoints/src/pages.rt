@@ -14,9 +14,7 @@ use checkpoint_writer::{ImageError, write_catalogue};
 use drda_disk::Disk;
 use half_store::ImageWriter;
 use paged_tables::TablesLeft;
-use row_pages::one_laying;
 use std::alloc::Global;
-use store_check::written_half_is_whole;
 use table_map::TablePages;
 
 /// The pages of tables in an image, and the number of its catalogue's first page.
@@ -42,8 +40,8 @@ pub(crate) fn write_pages<'a, D: Disk>(
         → TellsPages result (end_of_half image.old) (next_of image.old + page_bytes * (pages_of_tables (all_shown tables.entry) + pages_of_catalogue (all_shown tables.entry))) }
     ensures cause { CountsImage result (D.life disk.old).faults (D.life disk.new).faults }
 {
-    one_laying();
-    written_half_is_whole();
+    row_pages::laws::one_laying();
+    store_check::laws::written_half_is_whole();
     let laid = write_tables(alloc, disk, image, tables)?;
     let first_catalogue = image.pages();
     write_catalogue(alloc, disk, image, &laid.places)?;

@@ -17,7 +17,6 @@ ghost use Rattle.paged_checkpoints.specs.Written.{AreListed, AreWritten, IsBegun
 use checkpoint_writer::{ImageError, TablePlace, merge_into};
 use drda_disk::Disk;
 use half_store::ImageWriter;
-use key_map::laws::rows_have_their_forms;
 use paged_tables::{TableRef, TablesLeft};
 use std::alloc::Global;
 use table_map::{SchemaKeys, TablePages};
@@ -64,7 +63,7 @@ fn write_table<'a, D: Disk>(
         → DamagedWhere ⊥ result }
     ensures cause { CountsImage result (D.life disk.old).faults (D.life disk.new).faults }
 {
-    rows_have_their_forms();
+    key_map::laws::rows_have_their_forms();
     let TableRef { name, schema, rows } = table;
     let _columns = schema.columns();
     let first = image.pages();

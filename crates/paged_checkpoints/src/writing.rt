@@ -22,7 +22,6 @@ use drda_disk::Disk;
 use half_store::{Active, ImageWriter, begin_image};
 use paged_tables::{PagedTables, TablesLeft};
 use std::alloc::Global;
-use store_check::checkpoints_are_known;
 use table_map::TablePages;
 use unit_journal::Record;
 
@@ -56,7 +55,7 @@ fn write_image<'a, D: Disk>(
     ensures told { AreReadable D.is_modelled (D.life disk.old).seen image tables.entry → TellsWriting result (need_of (all_shown tables.entry) (entries_of records.now) held) (half_bytes_of image) }
     ensures cause { CountsImage result (D.life disk.old).faults (D.life disk.new).faults }
 {
-    checkpoints_are_known();
+    store_check::laws::checkpoints_are_known();
     let mut image = image;
     let written = write_pages(alloc, disk, &mut image, tables)?;
     let first = written.first_catalogue;

@@ -3,7 +3,7 @@
 //! cache of pages.
 #![tactic(auto)]
 
-mod laws;
+pub mod laws;
 mod lending;
 mod steps;
 mod store;
@@ -11,7 +11,6 @@ mod stored_table;
 mod tables_by_name;
 mod tree;
 
-pub use laws::rows_stand_at_their_forms;
 pub use lending::{TableRef, TablesLeft};
 pub use store::PagedTables;
 pub use stored_table::JudgedRows;

@@ -19,19 +19,14 @@ ghost use Rattle.tables.specs.Tables.{put_row, remove_row};
 ghost use Rattle.paged_tables.specs.Judged.{may_be_row};
 ghost use Rattle.paged_tables.specs.Stored.{AreRowsOf, FormsKey, FormsRow, HasRoomFor, IsFormOf, IsOnPages, IsRowAt, IsStored, KeepsPages, LiesInside, created_table, form_in, laid_anew, opened, rows_in, shown, table_in};
 
-use crate::laws::rows_stand_at_their_forms;
 use drda_disk::Disk;
-use key_map::laws::rows_have_their_forms;
 use key_map::{row_form, sort_form};
 use row_pages::{PageFault, Pager};
-use row_values::laws::rows_have_values_and_keys;
 use row_values::{RowRef, Schema, is_key};
 use std::alloc::{AllocError, Global};
 use std::marker::Model;
 use std::sync::Arc;
-use table_map::{
-    JudgedRow, NotedPages, NotedRows, SchemaKeys, TableMap, TablePages, stored_tables_are_whole,
-};
+use table_map::{JudgedRow, NotedPages, NotedRows, SchemaKeys, TableMap, TablePages};
 use tables::Rows;
 
 /// Rows of a table, in the order of their keys.
@@ -167,8 +162,8 @@ impl StoredTable {
         ensures stays { Stays (D.life pager.old) (D.life pager.new) }
         ensures cause { CountsPageFault result (D.life pager.old).faults (D.life pager.new).faults }
     {
-        stored_tables_are_whole();
-        rows_stand_at_their_forms();
+        table_map::laws::stored_tables_are_whole();
+        crate::laws::rows_stand_at_their_forms();
         let schema: &Schema = &self.schema;
         let _columns = schema.columns();
         let keys = SchemaKeys { schema };
@@ -189,8 +184,8 @@ impl StoredTable {
         ensures stays { Stays (D.life pager.old) (D.life pager.new) }
         ensures cause { CountsPageFault result (D.life pager.old).faults (D.life pager.new).faults }
     {
-        stored_tables_are_whole();
-        rows_stand_at_their_forms();
+        table_map::laws::stored_tables_are_whole();
+        crate::laws::rows_stand_at_their_forms();
         let schema: &Schema = &self.schema;
         let _columns = schema.columns();
         let keys = SchemaKeys { schema };
@@ -321,7 +316,7 @@ impl StoredTable {
     pub fn relay(&mut self, alloc: Global, pages: TablePages)
         ensures { self.new ≡ laid_anew pages self.old }
     {
-        rows_have_their_forms();
+        key_map::laws::rows_have_their_forms();
         let schema: &Schema = &self.schema;
         let _columns = schema.columns();
         self.base.listed.set(&(schema, &self.rows));
@@ -344,8 +339,8 @@ fn form_of_row(alloc: Global, schema: &Schema, row: &[u8]) -> Result<Option<Vec<
     ensures { IfOk result (λ form. FormsRow schema.now row.now (form_in form)) }
 {
     let _columns = schema.columns();
-    rows_have_their_forms();
-    rows_have_values_and_keys();
+    key_map::laws::rows_have_their_forms();
+    row_values::laws::rows_have_values_and_keys();
     let Ok(_parsed) = RowRef::parse(schema, row) else {
         return Ok(None);
     };

@@ -65,8 +65,8 @@ impl Asked {
         }
     }
 
-    // `fresh` lets all tables go, over a device that fails behind so many calls if they are told; `schema` lays the schema of the rows, and `do`
-    // makes a change at once.
+    // `fresh` lets all tables go, over a device that fails behind so many calls if they are told; `schema` lays the schema of the rows, and
+    // `do` makes a change at once.
     fn answer_words(&mut self, verb: &str, words: &[&str], out: &mut Vec<u8>) -> Option<()> {
         match verb {
             "fresh" => self.begin(words),
@@ -207,8 +207,8 @@ impl Asked {
         self.stores.tell_row(name, &key, out)
     }
 
-    // `commit` makes the changes that were laid, `reserve` makes room for them alone, and `release` gives it up; `alike` and `lent` compare the
-    // tables of these names; `checkpoint` lays all rows into pages, and goes on over them.
+    // `commit` makes the changes that were laid, `reserve` makes room for them alone, and `release` gives it up; `alike` and `lent` compare
+    // the tables of these names; `checkpoint` lays all rows into pages, and goes on over them.
     fn answer_of_tables(&mut self, verb: &str, words: &[&str], out: &mut Vec<u8>) -> Option<()> {
         match verb {
             "commit" => self.stores.commit(out),

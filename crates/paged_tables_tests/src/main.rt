@@ -1,5 +1,5 @@
-//! Tests of paged_tables: changes of its tables and of plain ones, over pages and without, and what both show. What each line of standard input comes to goes to
-//! standard output, which is compared.
+//! Tests of paged_tables: changes of its tables and of plain ones, over pages and without, and what both show. What each line of standard
+//! input comes to goes to standard output, which is compared.
 #![tactic(auto)]
 
 mod ahead;

@@ -4,10 +4,10 @@ use drda_program::Network;
 use std::io::{self, ErrorKind, Read, Write};
 use std::net::{Ipv4Addr, OpenStream, SocketAddr, SocketAddrV4};
 
-/// A network with one listener, of this machine alone, asked for the port 0 or 4711 and found at 4711. By its way the ports are `taken`; none
-/// is let in (`shut`); letting one in fails 99 times before the first (`late`), before each (`late-each`), or 100 times (`too-late`); or the first
-/// caller is broken and the others are not (`broken-then`). By any other way each caller is such a one. Each says the same, and has a second handle only once it was asked to
-/// hurry.
+/// A network with one listener, of this machine alone, asked for the port 0 or 4711 and found at 4711. By its way the ports are `taken`;
+/// none is let in (`shut`); letting one in fails 99 times before the first (`late`), before each (`late-each`), or 100 times (`too-late`);
+/// or the first caller is broken and the others are not (`broken-then`). By any other way each caller is such a one. Each says the same,
+/// and has a second handle only once it was asked to hurry.
 #[derive(Drop)]
 pub struct Callers<'a> {
     way: &'a str,

@@ -31,10 +31,10 @@ const UPDATE: &str = "000A D051 0006 0004 200A 0287 D003 0006 0281 2414 00 00000
 /// So many of them take more than an eighth of a half of 1,040,384 bytes.
 const UPDATES: u64 = 250;
 
-/// Files by their names: `store` is a fresh store SHOP, `doubt` one over which a conversation has said what leaves units in doubt, `old` the same
-/// of layout 1, `crowded` the same of layout 1 with more tables than a half has pages, `laden` one with so many records that a checkpoint is due,
-/// `zeros` none at all, and `damaged` one whose journal begins with a record of an unknown kind. The one that can be made is `new`. The private texts `login`, `line` and `carriage` hold a login, `lines`,
-/// `blank` and `colon` none.
+/// Files by their names: `store` is a fresh store SHOP, `doubt` one over which a conversation has said what leaves units in doubt, `old`
+/// the same of layout 1, `crowded` the same of layout 1 with more tables than a half has pages, `laden` one with so many records that a
+/// checkpoint is due, `zeros` none at all, and `damaged` one whose journal begins with a record of an unknown kind. The one that can be
+/// made is `new`. The private texts `login`, `line` and `carriage` hold a login, `lines`, `blank` and `colon` none.
 #[derive(Drop)]
 pub struct Shelf<'a> {
     alloc: Global,

@@ -64,9 +64,9 @@ impl<R: Files<File = File>> Place<'_, R> {
     }
 }
 
-/// Two ends of a stream, the one let in by the network of the system: tells whether just the address was listened on that was asked for, from
-/// whom it comes, whether small segments are sent at once, how long a read of it waits, and whether what is written on its second handle comes
-/// to the other end.
+/// Two ends of a stream, the one let in by the network of the system: tells whether just the address was listened on that was asked for,
+/// from whom it comes, whether small segments are sent at once, how long a read of it waits, and whether what is written on its second
+/// handle comes to the other end.
 pub fn tell_sockets<R: Net + Clock>(rt: &R, alloc: Global, told: &mut Vec<u8>) -> Option<()> {
     let mut net = SystemNetwork::new(alloc, rt);
     let listener = net.bind(address(0)).ok()?;

@@ -24,15 +24,15 @@ struct Scene<'a> {
     input: &'a [u8],
 }
 
-/// Tries each line: the streams, the network, behind how many calls devices fail, the input in hexadecimal, which a caller says too, and then
-/// the program's words. `mute-in`, `mute-out` and `mute-err` are broken streams, `unflushed` an output that fails at its flush; all are well
-/// by `whole`. With `doubt` the input is what makes the store of that name; with `notices` it is written what a log may be told; with `files`
-/// words behind @ are files of the system, and their first one is looked at; with `file` the input is written into one with the rights behind
-/// its name, or it is taken away where they are 0; with `sockets` two sockets meet.
+/// Tries each line: the streams, the network, behind how many calls devices fail, the input in hexadecimal, which a caller says too, and
+/// then the program's words. `mute-in`, `mute-out` and `mute-err` are broken streams, `unflushed` an output that fails at its flush; all
+/// are well by `whole`. With `doubt` the input is what makes the store of that name; with `notices` it is written what a log may be told;
+/// with `files` words behind @ are files of the system, and their first one is looked at; with `file` the input is written into one with
+/// the rights behind its name, or it is taken away where they are 0; with `sockets` two sockets meet.
 ///
 /// Tells each line with what the program came to: its status, the size of the file that it made, what it wrote, the lines of its log, the
-/// limit of a stream's reads and writes, how often letting one in was paused, and what it said on standard error. None where a line is none of
-/// these, and without memory.
+/// limit of a stream's reads and writes, how often letting one in was paused, and what it said on standard error. None where a line is none
+/// of these, and without memory.
 pub fn follow<T: Threads + Wait + Clock + Files<File = File> + Net + Sync>(
     place: &Place<'_, T>,
     text: &str,
@@ -109,8 +109,8 @@ fn try_files<T: Threads + Wait + Clock + Files<File = File> + Net + Sync>(
     tell(place.alloc, status, place.length(words)?, &said, told)
 }
 
-// The program over these words: its status, and what was said. What is said on standard error of files of the system has their paths, and is
-// left out.
+// The program over these words: its status, and what was said. What is said on standard error of files of the system has their paths, and
+// is left out.
 fn status_of<T: Threads + Wait + Clock + Files<File = File> + Net + Sync, F: StoreFiles>(
     place: &Place<'_, T>,
     words: &str,

@@ -1,5 +1,5 @@
 -- Tables that are copied one after another are the tables.
-use Rattle.std.proofs.Common.{◌≡◌, ◌+◌, ℕ, List, [], ◌∷◌, ◌++◌, Bool, true, false, cond, if◌then◌else◌, refl, sym, ap, ◌∙◌, drop, Option, Some, None, IsTrue, is_some, append_assoc, append-nil, option_map, Ordering, Greater}
+use Rattle.std.proofs.Common.{◌≡◌, ◌+◌, ℕ, List, [], ◌∷◌, ◌++◌, Bool, true, false, cond, if◌then◌else◌, refl, sym, ap, ◌∙◌, drop, Option, Some, None, IsTrue, is_some, append_assoc, option_map, Ordering, Greater}
 use Rattle.std.specs.Prelude.{bytes_eq, unwrap_or}
 use Rattle.std.specs.List.{list_all, slice_get}
 use Rattle.std.specs.Ordering.{is_lt, match_ordering, nat_cmp, ordering_reverse}
@@ -148,9 +148,6 @@ pub record IsCopying (store : Store) (left : Tables) (is_told : Bool) (view : St
 
 pub none_copied : (store : Store) (tables : Tables) (is_told : Bool) (left : Tables) (view : Store) → store ≡ store_of tables → left ≡ created_of tables → view ≡ [] → IsCopying store left is_told view
 none_copied store tables is_told left view same all none = record { done = []; whole = ap entries all ∙ created_store tables ∙ sym same; copied = λ told. none }
-
-pub all_copied : (store : Store) (left : Tables) (is_told : Bool) (view : Store) → left ≡ [] → IsCopying store left is_told view → IsTrue is_told → view ≡ store
-all_copied store left is_told view none so told = so.copied told ∙ sym (append-nil so.done) ∙ ap (λ (l : Tables). so.done ++ entries l) (sym none) ∙ so.whole
 
 module _ (store : Store) (good : is_store store ≡ true) (e : List ℕ × Stored) (left : Tables) (is_told : Bool) (view : Store) (so : IsCopying store (e ∷ left) is_told view) where
   abbrev first : List ℕ × Table

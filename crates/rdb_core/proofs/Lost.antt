@@ -30,11 +30,6 @@ next_at (x ∷ bs) (suc n) b lt is =
     let q : suc (n + 1) ≡ suc n + 1 = omega arith in
     next_at bs n b (omega (arith, lt)) is ∙ ap (λ (k : ℕ). b ∷ drop k (x ∷ bs)) q
 
-pub gone_at : (c : ℕ) (bs : List Branch) (at : ℕ) (b : Branch) (us vs : List Held) → at < length bs → b ≡ get_or bs at b → vs ≡ (if is_lost_with c b.state then without (global b.xid) us else us)
-    → left_units (lost_xids (drop (at + 1) bs) c) vs ≡ left_units (lost_xids (drop at bs) c) us
-gone_at c bs at b us vs lt read is =
-    one_gone c b (drop (at + 1) bs) us vs is ∙ ap (λ (l : List Branch). left_units (lost_xids l c) us) (sym (next_at bs at b lt read))
-
 pub past : (bs : List Branch) (at : ℕ) → length bs ≤ at → drop at bs ≡ []
 past [] zero le = refl
 past [] (suc at) le = refl

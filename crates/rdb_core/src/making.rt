@@ -17,7 +17,6 @@ use crate::engine::Core;
 use crate::together::{is_prepare, owner_of};
 use std::alloc::{AllocError, Global};
 use tables::Change;
-use unit_records::laws::calls_go_together;
 use unit_records::{Asked, DeviceFailed, GroupCall, GroupError, Phase, RecordContents, Recorder};
 use unit_statements::Base;
 use unit_table::{Owner, Units};
@@ -36,7 +35,7 @@ impl<R: Recorder> Core<R> {
         ensures refused { IfErr result (λ error. FailsTogether R.fails_all (records_of (state_of self.old).base.units calls.now) error (recorder_of self.old) (recorder_of self.new)) }
         ensures pages { PagesStay (pages_of self.old) (pages_of self.new) }
     {
-        calls_go_together();
+        unit_records::laws::calls_go_together();
         let _branches = self.branches.branches();
         let changes = match copied_changes(&self.base.units, self.alloc, calls) {
             Ok(changes) => changes,

@@ -21,8 +21,8 @@ pub enum Given {
     Cut,
 }
 
-/// Makes so many records, and refuses those that follow; lays none ahead while its fault is that of a device. Reads rows of tables without pages, counts the reads and
-/// those in which the device counts as failed, and refuses each while it has a fault.
+/// Makes so many records, and refuses those that follow; lays none ahead while its fault is that of a device. Reads rows of tables without
+/// pages, counts the reads and those in which the device counts as failed, and refuses each while it has a fault.
 #[derive(Drop)]
 pub struct Few {
     pub left: u32,

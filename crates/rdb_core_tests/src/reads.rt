@@ -117,7 +117,8 @@ fn bounded(alloc: Global, bytes: usize) -> Option<(bool, Option<usize>)> {
     Some((short, rows_for(alloc, &mut bench, 2, "DELETE FROM T")))
 }
 
-// The row takes 18 bytes: its own 10, and 8 for where it ends. A query that wants more than it may claims nothing; else it claims the table.
+// The row takes 18 bytes: its own 10, and 8 for where it ends. A query that wants more than it may claims nothing; else it claims the
+// table.
 #[test]
 fn a_query_takes_no_more_than_it_may(rt: HostRuntime) -> Result<(), Fail> {
     for (bytes, found) in [

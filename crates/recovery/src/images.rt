@@ -3,18 +3,15 @@
 ghost use Rattle.recovery.specs.Journaled.{AnsweredStays, CallsGoOn, OneCallIsMade, OneGroupIsMade};
 ghost use Rattle.recovery.specs.ImageLaws.{FreshStoresOpen, GroupsOpen, GroupsStay, OpensThere, OpensToOne, RecordsOpen, RecordsStay};
 
-use crate::laws::{records_follow_one_another, records_lead_one_way};
 use drda_disk::Disk;
-use store_check::checkpoints_are_known;
-use unit_journal::a_region_has_one_reading;
 
 /// An image opens to one state at most.
 pub fn images_open_to_one_state()
     ensures { OpensToOne }
 {
-    a_region_has_one_reading();
-    checkpoints_are_known();
-    records_lead_one_way();
+    unit_journal::laws::a_region_has_one_reading();
+    store_check::laws::checkpoints_are_known();
+    crate::laws::records_lead_one_way();
 }
 
 /// An image that opens has its journal where its active half says.
@@ -26,14 +23,14 @@ pub fn images_open_there()
 pub fn records_open()
     ensures { RecordsOpen }
 {
-    groups_open();
+    crate::laws::groups_open();
 }
 
 /// Where a record was added, an image in which it stands opens to the state behind it.
 pub fn records_stay()
     ensures { RecordsStay }
 {
-    groups_stay();
+    crate::laws::groups_stay();
 }
 
 /// Where records are added together, images from before them or after them open to the state before them
@@ -41,16 +38,16 @@ pub fn records_stay()
 pub fn groups_open()
     ensures { GroupsOpen }
 {
-    checkpoints_are_known();
-    records_lead_one_way();
+    store_check::laws::checkpoints_are_known();
+    crate::laws::records_lead_one_way();
 }
 
 /// Where records were added together, an image in which they stand opens to the state behind them.
 pub fn groups_stay()
     ensures { GroupsStay }
 {
-    checkpoints_are_known();
-    records_lead_one_way();
+    store_check::laws::checkpoints_are_known();
+    crate::laws::records_lead_one_way();
 }
 
 /// A store that was just made opens without tables and without units in doubt, and its journal has no
@@ -58,7 +55,7 @@ pub fn groups_stay()
 pub fn fresh_stores_open()
     ensures { FreshStoresOpen }
 {
-    checkpoints_are_known();
+    store_check::laws::checkpoints_are_known();
 }
 
 /// Calls one after another leave on the disk, at any moment, the state after the first of the groups of records
@@ -66,14 +63,14 @@ pub fn fresh_stores_open()
 pub fn calls_go_on<D: Disk>()
     ensures { CallsGoOn D.life }
 {
-    records_follow_one_another();
+    crate::laws::records_follow_one_another();
 }
 
 /// What one call makes of a core and its disk: it makes one record, or none, or the core had failed.
 pub fn calls_make_records<D: Disk>()
     ensures { OneCallIsMade D.life }
 {
-    groups_open();
+    crate::laws::groups_open();
 }
 
 /// What calls have answered is in each image that a crash leaves from then on, though the device failed
@@ -81,12 +78,12 @@ pub fn calls_make_records<D: Disk>()
 pub fn answered_units_stay<D: Disk>()
     ensures { AnsweredStays D.life }
 {
-    records_follow_one_another();
+    crate::laws::records_follow_one_another();
 }
 
 /// What a call makes of a core and its disk that makes a group of records, all or none, or begins it.
 pub fn calls_make_groups<D: Disk>()
     ensures { OneGroupIsMade D.life }
 {
-    groups_open();
+    crate::laws::groups_open();
 }

@@ -10,7 +10,6 @@ ghost use Rattle.recovery.specs.Known.{AreKnown, is_of};
 ghost use Rattle.recovery.specs.Replay.{durable_of, pages_of};
 ghost use Rattle.recovery.specs.Journal.{Finds, Goes, Leads, Replays};
 
-use crate::laws::records_lead_one_way;
 use crate::steps::Replay;
 use half_store::Layout;
 use paged_tables::PagedTables;
@@ -19,7 +18,6 @@ use std::alloc::Global;
 use thiserror::Error;
 use unit_journal::{Kind, Record};
 use unit_records::UnitRecord;
-use unit_records::laws::records_have_one_reading;
 
 /// Why records were not replayed.
 #[derive(Clone, Copy, Debug, PartialEq, Eq, Error)]
@@ -32,11 +30,10 @@ pub enum ReplayError {
     Damaged { at: usize },
 }
 
-/// The committed tables and the units in doubt that the records of a journal lead to, from its first
-/// on, over the tables of the checkpoint that they follow. `Damaged` exactly where a record has no place among those before it (as `Replay::step` tells; so
-/// a prepare that creates a table and does not claim all names has none), its kind is none of the layout's, or its
-/// body is none of its kind: at the first such record's gate. No page is read, and what is true of the
-/// tables' pages stays true.
+/// The committed tables and the units in doubt that the records of a journal lead to, from its first on, over the tables of the checkpoint
+/// that they follow. `Damaged` exactly where a record has no place among those before it (as `Replay::step` tells; so a prepare that
+/// creates a table and does not claim all names has none), its kind is none of the layout's, or its body is none of its kind: at the first
+/// such record's gate. No page is read, and what is true of the tables' pages stays true.
 pub fn replay(
     alloc: Global,
     layout: Layout,
@@ -47,7 +44,7 @@ pub fn replay(
     ensures pages { IfOk result (λ r. PagesStay checkpoint.tables (pages_of r)) }
     ensures finds { (d : Durable) → AreKnown layout (entries_of records.now) → Leads (at_checkpoint (store_in checkpoint)) (entries_of records.now) d → Finds d result }
 {
-    records_lead_one_way();
+    crate::laws::records_lead_one_way();
     let mut state = Replay::over(alloc, checkpoint);
     let mut left = records;
     while let [entry, rest @ ..] = left {
@@ -83,7 +80,7 @@ fn read_and_step(
     ensures goes { Goes layout (durable_of state.old) (entry_of entry.now) result (durable_of state.new) }
     ensures pages { PagesStay (pages_of state.old) (pages_of state.new) }
 {
-    records_have_one_reading();
+    unit_records::laws::records_have_one_reading();
     if !is_of(layout, entry.kind) {
         return Err(ReadError::Damaged);
     }

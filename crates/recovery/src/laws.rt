@@ -6,8 +6,16 @@ ghost use Rattle.recovery.specs.Laying.{DoubtsAreLaid};
 ghost use Rattle.recovery.specs.Places.{ChangesKeepTables, PlacesGoOn, RowsKeepPlaces, TablesGivePlaces};
 ghost use Rattle.recovery.specs.Sound.{LeadsAreSound, StatesStaySound};
 
-use tables::laws::{changes_are_local, changes_make_tables};
-use unit_records::laws::records_have_one_reading;
+pub use crate::images::{
+    answered_units_stay, calls_go_on, calls_make_groups, calls_make_records, fresh_stores_open,
+    groups_open, groups_stay, images_open_there, images_open_to_one_state, records_open,
+    records_stay,
+};
+pub use crate::openings::{crashes_find_points, openings_begin_histories, stores_stay_sane};
+pub use crate::places::changes_have_places;
+pub use crate::step_laws::{
+    groups_are_recorded, heuristics_are_recorded, openings_are_kept, steps_are_recorded,
+};
 
 /// Records are replayed one after another: what follows others goes on from where they led, and where
 /// all have their places, so has each front of them.
@@ -25,7 +33,7 @@ pub fn records_lead_one_way()
     ensures written { WrittenLead }
     ensures back { LeadingWereWritten }
 {
-    records_have_one_reading();
+    unit_records::laws::records_have_one_reading();
 }
 
 /// What is held back in a journal is what the decisions of the units in doubt take.
@@ -48,8 +56,8 @@ pub fn places_depend_on_tables()
     ensures tables { TablesGivePlaces }
     ensures kept { ChangesKeepTables }
 {
-    changes_are_local();
-    changes_make_tables();
+    tables::laws::changes_are_local();
+    tables::laws::changes_make_tables();
 }
 
 /// Each record that can be written keeps a state sound: a store, and XIDs in doubt that rise, 256 at
@@ -58,7 +66,7 @@ pub fn places_depend_on_tables()
 pub fn states_stay_sound()
     ensures { StatesStaySound }
 {
-    changes_are_local();
+    tables::laws::changes_are_local();
 }
 
 /// The state that entries lead to from a checkpoint is sound.

@@ -6,16 +6,16 @@
 
 mod claimed;
 mod gathered;
-pub mod images;
+mod images;
 mod journal;
 mod laid;
 pub mod laws;
-pub mod openings;
+mod openings;
 mod placed;
-pub mod places;
+mod places;
 mod prepared;
 mod schema_view;
-pub mod step_laws;
+mod step_laws;
 mod steps;
 
 pub use journal::{ReplayError, replay};

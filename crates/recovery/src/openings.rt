@@ -2,12 +2,6 @@
 
 ghost use Rattle.recovery.specs.Openings.{CrashesFindPoints, CrashesLeaveSane, EntriesTell, ImagesAreSound, ImagesBegin, OpeningsBegin, OpeningsStaySane, RecordsGoOn, StoresStaySane};
 
-use crate::laws::records_lead_to_sound_states;
-use crate::step_laws::{heuristics_are_recorded, openings_are_kept, steps_are_recorded};
-use core_model::laws::histories_are_sane;
-use store_check::checkpoints_are_known;
-use unit_records::laws::records_have_one_reading;
-
 /// What a store opens to, whatever its bytes are, begins a history as the law of serial order asks it: one
 /// store, branches that rise, and no unit with work but those of prepared branches.
 pub fn openings_begin_histories()
@@ -15,9 +9,9 @@ pub fn openings_begin_histories()
     ensures images { ImagesBegin }
     ensures sound { ImagesAreSound }
 {
-    checkpoints_are_known();
-    openings_are_kept();
-    records_lead_to_sound_states();
+    store_check::laws::checkpoints_are_known();
+    crate::laws::openings_are_kept();
+    crate::laws::records_lead_to_sound_states();
 }
 
 /// What a crash leaves of a history of calls and heuristic decisions, the state after the first of its records, was durable at
@@ -27,9 +21,9 @@ pub fn crashes_find_points()
     ensures go_on { RecordsGoOn }
     ensures entries { EntriesTell }
 {
-    steps_are_recorded();
-    heuristics_are_recorded();
-    records_have_one_reading();
+    crate::laws::steps_are_recorded();
+    crate::laws::heuristics_are_recorded();
+    unit_records::laws::records_have_one_reading();
 }
 
 /// The rest of what serial order asks, that each change of a unit in doubt lies in a write claim of it:
@@ -40,9 +34,9 @@ pub fn stores_stay_sane()
     ensures crashed { CrashesLeaveSane }
     ensures lives { StoresStaySane }
 {
-    histories_are_sane();
-    openings_are_kept();
-    records_lead_to_sound_states();
-    steps_are_recorded();
-    heuristics_are_recorded();
+    core_model::laws::histories_are_sane();
+    crate::laws::openings_are_kept();
+    crate::laws::records_lead_to_sound_states();
+    crate::laws::steps_are_recorded();
+    crate::laws::heuristics_are_recorded();
 }

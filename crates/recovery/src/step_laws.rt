@@ -2,14 +2,6 @@
 
 ghost use Rattle.recovery.specs.StepLaws.{DecisionsAreOfDoubts, DecisionsKeep, DecisionsLead, DueAreKnown, GroupsAreKnown, GroupsAreOfDoubts, GroupsKeep, GroupsLead, HeuristicsAreOfDoubts, MisreadsKeep, MisreadsStay, OpeningsAreKept, RecordsLead, SilentStepsStay, StepsKeep};
 
-use crate::laws::{doubts_hold_their_decisions, places_depend_on_tables};
-use crate::places::changes_have_places;
-use core_model::laws::units_in_doubt_wait;
-use tables::laws::changes_are_local;
-use unit_locks::adding;
-use unit_records::laws::calls_go_together;
-use xa_manager::{actions_fit_states, works_while_active};
-
 /// What is durable of a core is what its records lead to: each step of a kept core makes one record due at
 /// most, which has its place among those before and leads to what is durable after the step; a step
 /// without a record changes nothing durable, nor does a statement that is given other rows.
@@ -22,14 +14,14 @@ pub fn steps_are_recorded()
     ensures misread_keep { MisreadsKeep }
     ensures misread_stays { MisreadsStay }
 {
-    actions_fit_states();
-    adding();
-    changes_are_local();
-    changes_have_places();
-    doubts_hold_their_decisions();
-    places_depend_on_tables();
-    units_in_doubt_wait();
-    works_while_active();
+    xa_manager::laws::actions_fit_states();
+    unit_locks::laws::adding();
+    tables::laws::changes_are_local();
+    crate::laws::changes_have_places();
+    crate::laws::doubts_hold_their_decisions();
+    crate::laws::places_depend_on_tables();
+    core_model::laws::units_in_doubt_wait();
+    xa_manager::laws::works_while_active();
 }
 
 /// A heuristic decision of a prepared branch keeps a core. Its record has its place, leads to what is durable then, and
@@ -39,14 +31,14 @@ pub fn heuristics_are_recorded()
     ensures lead { DecisionsLead }
     ensures held { HeuristicsAreOfDoubts }
 {
-    adding();
-    actions_fit_states();
-    changes_are_local();
-    changes_have_places();
-    doubts_hold_their_decisions();
-    places_depend_on_tables();
-    units_in_doubt_wait();
-    works_while_active();
+    unit_locks::laws::adding();
+    xa_manager::laws::actions_fit_states();
+    tables::laws::changes_are_local();
+    crate::laws::changes_have_places();
+    crate::laws::doubts_hold_their_decisions();
+    crate::laws::places_depend_on_tables();
+    core_model::laws::units_in_doubt_wait();
+    xa_manager::laws::works_while_active();
 }
 
 /// A core that is opened over what records lead to is kept, and just that is durable of it.
@@ -62,7 +54,7 @@ pub fn groups_are_recorded()
     ensures decisions { GroupsAreOfDoubts }
     ensures known { GroupsAreKnown }
 {
-    calls_go_together();
-    doubts_hold_their_decisions();
-    steps_are_recorded();
+    unit_records::laws::calls_go_together();
+    crate::laws::doubts_hold_their_decisions();
+    crate::laws::steps_are_recorded();
 }

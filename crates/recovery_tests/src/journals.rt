@@ -91,9 +91,9 @@ const REMOVED: (Kind, &'static [u8]) = (
 
 const SHORT_ROW: (Kind, &'static [u8]) = (Kind::Commit, &[0, 0, 0, 1, 2, 1, b'T', 0, 2, 0, 0]);
 
-// How many rows T has, a sign for each branch in doubt, in their order, and how many claims the first of them has: ? waits for its decision,
-// C and R were decided heuristically to commit and to roll back. Or the gate of the record that is damaged, of which that of record i is at
-// i times 100.
+// How many rows T has, a sign for each branch in doubt, in their order, and how many claims the first of them has: ? waits for its
+// decision, C and R were decided heuristically to commit and to roll back. Or the gate of the record that is damaged, of which that of
+// record i is at i times 100.
 type Told = Result<(usize, &'static str, usize), usize>;
 
 pub type Records = &'static [(Kind, &'static [u8])];

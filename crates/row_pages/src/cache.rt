@@ -10,7 +10,8 @@ ghost use Rattle.row_pages.specs.Keeping.{AreRead, CountsPageFault, TellsDamage}
 ghost use Rattle.row_pages.specs.declared.kept.PageFault.TheVariants.{NoMemory};
 
 use crate::judged::JudgedPage;
-use crate::kept::{KeptPage, PageFault, read_page};
+use crate::kept::{KeptPage, PageFault};
+use crate::memory::PageMemory;
 use drda_disk::{Disk, PAGE_BYTES};
 use lru::LruCache;
 use row_values::Schema;
@@ -81,7 +82,9 @@ impl PageCache {
         }
     }
 
-    /// Keeps the page at an offset, as the one that was asked for last. It is read where it is not kept.
+    /// Keeps the page at an offset, as the one that was asked for last. It is read where it is not kept: into the memory
+    /// of the page that was asked for longest ago, where no more can be kept. That page is kept no longer then, also
+    /// where there is none in its place.
     pub(crate) fn fetch<D: Disk>(
         &mut self,
         alloc: Global,
@@ -98,7 +101,7 @@ impl PageCache {
         if self.promote(at) {
             return Ok(());
         }
-        let page = read_page(alloc, disk, at)?;
+        let page = self.take_memory(alloc)?.read(disk, at)?;
         self.keep(at, page)
     }
 
@@ -110,7 +113,32 @@ impl PageCache {
         self.pages.promote(&at)
     }
 
-    // Keeps a page, in place of the one that was asked for longest ago where there are too many.
+    // Memory for one more page: where no more can be kept, that of the page that was asked for longest ago, which is
+    // kept no longer then; else new memory.
+    fn take_memory(&mut self, alloc: Global) -> Result<PageMemory, PageFault>
+        ensures kept { (file : List ℕ) → AreRead self.old file → AreRead self.new file }
+        ensures fault { IfErr result (λ fault. fault ≡ NoMemory) }
+    {
+        match self.make_room() {
+            Some(page) => Ok(PageMemory::of(page.into_page())),
+            None => new_memory(alloc),
+        }
+    }
+
+    // The page that was asked for longest ago, where no more can be kept: it is kept no longer.
+    fn make_room(&mut self) -> Option<JudgedPage>
+        ensures { (file : List ℕ) → AreRead self.old file → AreRead self.new file }
+    {
+        if self.pages.len() < self.pages.cap().get() {
+            return None;
+        }
+        match self.pages.pop_lru() {
+            Some((_, page)) => Some(page),
+            None => None,
+        }
+    }
+
+    // Keeps a page, as the one that was asked for last.
     fn keep(&mut self, at: usize, page: KeptPage) -> Result<(), PageFault>
         ensures kept { (file : List ℕ) → AreRead self.old file → IsPage page (part file at page_bytes) → AreRead self.new file }
         ensures there { OnOk result (IsSome (lookup (nat_eq at) self.new)) }
@@ -143,6 +171,16 @@ impl PageCache {
             Some(page) => page,
             None => unreachable!(),
         }
+    }
+}
+
+// New memory for a page.
+fn new_memory(alloc: Global) -> Result<PageMemory, PageFault>
+    ensures { IfErr result (λ fault. fault ≡ NoMemory) }
+{
+    match PageMemory::new(alloc) {
+        Ok(memory) => Ok(memory),
+        Err(_) => Err(PageFault::NoMemory),
     }
 }
 

@@ -43,6 +43,14 @@ impl JudgedPage {
         JudgedPage { page, mark: None }
     }
 
+    /// The page, without its mark.
+    pub(crate) fn into_page(self) -> KeptPage
+        ensures { result ≡ self }
+    {
+        let JudgedPage { page, mark: _ } = self;
+        page
+    }
+
     /// The page.
     pub fn page(&self) -> &KeptPage
         ensures { result.now ≡ self.now }

@@ -1,6 +1,6 @@
 //! A page in memory of its own, judged when it was read.
 
-ghost use Rattle.std.specs.Prelude.{◌≡◌, ◌≤◌, ◌<◌, ◌+◌, IsTrue, IfOk, Some, drop, length};
+ghost use Rattle.std.specs.Prelude.{◌≡◌, ◌≤◌, ◌<◌, ◌+◌, [], IsTrue, IfOk, Some, drop, length, vec_capacity};
 ghost use Rattle.std.specs.List.{slice_get};
 ghost use Rattle.drda_words.specs.Place.{part};
 ghost use Rattle.drda_disk.specs.Disk.{Stays};
@@ -66,17 +66,17 @@ impl Model for KeptPage {
 }
 
 impl KeptPage {
-    /// The page that the bytes are; `Damaged` exactly where they are none. The one memory that is
-    /// taken is that for the places of its rows.
-    pub(crate) fn parse(alloc: Global, bytes: Vec<u8>) -> Result<KeptPage, PageFault>
+    /// The page that the bytes are; `Damaged` exactly where they are none. The places of its rows go into
+    /// a list that is there, in place of what it has: memory is taken only where it has no room for them.
+    pub(crate) fn parse(bytes: Vec<u8>, mut starts: Vec<u16>) -> Result<KeptPage, PageFault>
         ensures { ParsesKept bytes.items result }
     {
         let Some((kind, count)) = head_of(&bytes) else {
             return Err(PageFault::Damaged);
         };
-        let Ok(mut starts) = Vec::with_capacity(alloc, count) else {
+        if !empty_for(&mut starts, count) {
             return Err(PageFault::NoMemory);
-        };
+        }
         match place_rows(&mut starts, count, &bytes) {
             Some(end) => {
                 if is_zero(from_place(&bytes, end)) {
@@ -128,12 +128,34 @@ impl KeptPage {
         (starts.len(), bytes)
     }
 
+    /// Its bytes, 8,192 of them, and the list of the places of its rows: memory for another page. Takes no memory.
+    pub(crate) fn into_parts(self) -> (Vec<u8>, Vec<u16>)
+        ensures { length result.0.items ≡ page_bytes }
+    {
+        let KeptPage {
+            kind: _,
+            starts,
+            end: _,
+            bytes,
+        } = self;
+        (bytes, starts)
+    }
+
     /// The page where it lies. Takes no memory.
     pub fn page_ref(&self) -> PageRef<'_>
         ensures { result ≡ self.now }
     {
         PageRef::behind_head(self.kind, self.starts.len(), &self.bytes[HEADER_BYTES..])
     }
+}
+
+// Lets go of the places that a list has, and makes room in it for so many; whether there is room.
+fn empty_for(starts: &mut Vec<u16>, count: usize) -> bool
+    ensures room { IsTrue result → count ≤ vec_capacity starts.new }
+    ensures none { starts.new.items ≡ [] }
+{
+    starts.clear();
+    starts.reserve(count).is_ok()
 }
 
 /// The page that the disk reads at an offset, in memory of its own: for who reads it once, since no
@@ -147,5 +169,5 @@ pub fn read_page<D: Disk>(alloc: Global, disk: &mut D, at: usize) -> Result<Kept
     ensures faults { CountsPageFault result (D.life disk.old).faults (D.life disk.new).faults }
 {
     let bytes = read_bytes(alloc, disk, at, PAGE_BYTES)?;
-    KeptPage::parse(alloc, bytes)
+    KeptPage::parse(bytes, Vec::new(alloc))
 }

@@ -1,5 +1,5 @@
 -- The bytes of schemas, step by step.
-use Rattle.std.proofs.Common.{◌≡◌, ℕ, ◌+◌, ◌<◌, ◌≤◌, zero, suc, List, [], ◌∷◌, ◌++◌, Bool, true, false, ◌&&◌, ◌||◌, if◌then◌else◌, refl, sym, ap, ◌∙◌, map, length, drop, nat_le, Option, Some, None, option_map, arith, append_assoc, append-nil, length-append, ◌==◌}
+use Rattle.std.proofs.Common.{◌≡◌, ℕ, ◌+◌, ◌<◌, ◌≤◌, zero, suc, List, [], ◌∷◌, ◌++◌, Bool, true, false, ◌&&◌, ◌||◌, if◌then◌else◌, refl, sym, ap, ◌∙◌, map, length, drop, nat_le, Option, Some, None, option_map, arith, append_assoc, length-append, ◌==◌}
 use Rattle.byteorder.specs.Endian.{big_bytes}
 use Rattle.std.specs.Option.{option_and_then}
 use Rattle.std.specs.List.{flat_map, list_all, slice_get}
@@ -66,13 +66,6 @@ pub columns_stop : (columns : List Column) (n left : ℕ) (rest : List ℕ) → 
 columns_stop columns n left rest count is =
     ap (λ (m : ℕ). before columns (columns_at m rest)) count
     ∙ ap (λ (o : Option (Column × List ℕ)). before columns (option_and_then (λ (c : Column × List ℕ). option_map (λ (y : List Column × List ℕ). (c.0 ∷ y.0, y.1)) (columns_at left c.1)) o)) (sym is)
-
-pub columns_end : (columns : List Column) (n : ℕ) (rest : List ℕ) → n ≡ 0 → before columns (columns_at n rest) ≡ Some (columns, rest)
-columns_end columns n rest none = ap (λ (m : ℕ). before columns (columns_at m rest)) none ∙ ap (λ (l : List Column). Some (l, rest)) (append-nil columns)
-
-pub columns_first : (o : Option (List Column × List ℕ)) → before [] o ≡ o
-columns_first None = refl
-columns_first (Some y) = refl
 
 push_map : (items : List CodeColumn) (c : CodeColumn) → map column_of (items ++ c ∷ []) ≡ map column_of items ++ column_of c ∷ []
 push_map [] c = refl

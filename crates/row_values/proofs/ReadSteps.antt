@@ -163,10 +163,6 @@ added v None h = absurd cc
 pub walk_on : (c : Column) (cs : List Column) (rest : List ℕ) (x : Value × List ℕ) → IsSome (values_at (c ∷ cs) rest) → Some x ≡ value_at c rest → IsSome (values_at cs x.1)
 walk_on c cs rest x h is = sym (still_some (λ vs. x.0 ∷ vs) (values_at cs x.1)) ∙ sym (ap is_some (walk_by c cs rest x is)) ∙ h
 
-pub walk_gives : (c : Column) (cs : List Column) (rest : List ℕ) (x : Value × List ℕ) → IsSome (values_at (c ∷ cs) rest) → Some x ≡ value_at c rest → values_or_none (c ∷ cs) rest ≡ x.0 ∷ values_or_none cs x.1
-walk_gives c cs rest x h is =
-    ap (λ (o : Option (List Value)). unwrap_or o []) (walk_by c cs rest x is) ∙ added x.0 (values_at cs x.1) (sym (ap is_some (walk_by c cs rest x is)) ∙ h)
-
 -- ---- the column of a place
 
 -- where all values from place i on are read, the one there is

@@ -1,6 +1,6 @@
 -- The key of a row.
-use Rattle.std.proofs.Common.{◌≡◌, ℕ, ◌<◌, ◌≤◌, List, [], ◌∷◌, true, refl, sym, ap, subst, ◌∙◌, length, drop, get_or, Option, Some, None, arith}
-use Rattle.std.specs.Prelude.{IfSome, is_some}
+use Rattle.std.proofs.Common.{◌≡◌, ℕ, ◌<◌, ◌≤◌, List, [], ◌∷◌, true, refl, sym, ap, ◌∙◌, length, drop, get_or, Option, Some, None, arith}
+use Rattle.std.specs.Prelude.{is_some}
 use Rattle.std.specs.List.{list_all, slice_get}
 use Rattle.std.proofs.lemmas.Option.{slice_get-get_or}
 use Rattle.std.proofs.Common.{map, take}
@@ -68,15 +68,6 @@ key_column_at schema i place column good at is = sym (picked_at schema.columns s
 -- the value at a place of the key
 pub key_value_at : (schema : Schema) (values : List Value) (i place : ℕ) (value : Value) → is_schema schema ≡ true → all_fit schema.columns values ≡ true → slice_get schema.key i ≡ Some place → slice_get values place ≡ Some value → slice_get (picked values schema.key) i ≡ Some value
 key_value_at schema values i place value good fit at is = picked_at values schema.key i place (key_places_values schema values good fit) at ∙ is
-
-pub fits_there : (P : Column → Type 0) (o : Option Column) (column : Column) → o ≡ Some column → IfSome o P → P column
-fits_there P o column is h = subst (λ (q : Option Column). IfSome q P) is h
-
-pub key_done : (schema : Schema) (values : List Value) (i : ℕ) → is_schema schema ≡ true → all_fit schema.columns values ≡ true → length schema.key ≤ i → row_bytes (drop i (key_columns schema)) (drop i (picked values schema.key)) ≡ []
-key_done schema values i good fit past =
-    let a = key_count schema good in
-    let b = length-picked values schema.key (key_places_values schema values good fit) in
-    row_end (key_columns schema) (picked values schema.key) i (omega arith) (omega arith)
 
 -- ---- values of a key
 

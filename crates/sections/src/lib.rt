@@ -5,7 +5,7 @@
 
 mod cursor;
 mod fault;
-mod laws;
+pub mod laws;
 mod lengths;
 mod name;
 mod named;
@@ -14,7 +14,6 @@ mod sections;
 
 pub use cursor::Block;
 pub use fault::{NotPrepared, OpenFault, QueryNotOpen};
-pub use laws::{blocks_send_all_rows, calls_are_local, preparing_keeps_cursors, units_end_cursors};
 pub use lengths::{
     MAX_ANSWER_ROW_LENGTH, MAX_QRYDSC_LENGTH, MAX_QRYDTA_HEADING, answers_are_short,
 };

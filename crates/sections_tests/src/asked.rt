@@ -162,8 +162,8 @@ fn tell_named(
     }
 }
 
-// `new` begins with no section, `commit` and `rollback` end a unit, and `prepare-reserved` and `drop-reserved` do what they say; all else is
-// asked of the section of a name, or of those with the numbers from one to another, as 0..63.
+// `new` begins with no section, `commit` and `rollback` end a unit, and `prepare-reserved` and `drop-reserved` do what they say; all else
+// is asked of the section of a name, or of those with the numbers from one to another, as 0..63.
 fn answer(
     alloc: Global,
     sections: &mut Sections,

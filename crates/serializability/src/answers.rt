@@ -3,12 +3,6 @@
 ghost use Rattle.serializability.specs.Answered.{AnswersAreSerial, AnswersTell, CallsLeadOn, LogsAreAnswers, UnfitIsTheSame};
 ghost use Rattle.serializability.specs.Belonging.{AnswersBelong, ExcusesBelongToNone};
 
-use core_model::laws::units_in_doubt_wait;
-use sql_semantics::laws::statements_are_framed;
-use tables::laws::{changes_are_local, changes_make_tables};
-use unit_locks::{adding, clash_is_symmetric};
-use xa_manager::actions_fit_states;
-
 /// Each call is answered by its own kind of answer: who asks the core never meets one that belongs to
 /// another call. An excuse, which comes in place of an answer, belongs to none.
 pub fn answers_belong_to_calls()
@@ -33,11 +27,11 @@ pub fn answers_are_serial()
     ensures logs { LogsAreAnswers }
     ensures serial { AnswersAreSerial }
 {
-    changes_are_local();
-    changes_make_tables();
-    clash_is_symmetric();
-    adding();
-    statements_are_framed();
-    units_in_doubt_wait();
-    actions_fit_states();
+    tables::laws::changes_are_local();
+    tables::laws::changes_make_tables();
+    unit_locks::laws::clash_is_symmetric();
+    unit_locks::laws::adding();
+    sql_semantics::laws::statements_are_framed();
+    core_model::laws::units_in_doubt_wait();
+    xa_manager::laws::actions_fit_states();
 }

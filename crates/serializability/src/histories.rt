@@ -5,12 +5,6 @@ ghost use Rattle.serializability.specs.Steps.{EventsKeep};
 ghost use Rattle.serializability.specs.CoreWords.{CoreOrder, EventsAreTheirs, core_units, core_words};
 ghost use Rattle.serializability.specs.Histories.{DecidedHistoriesAreSerial, HistoriesAreSerial};
 
-use core_model::laws::units_in_doubt_wait;
-use sql_semantics::laws::statements_are_framed;
-use tables::laws::{changes_are_local, changes_make_tables};
-use unit_locks::{adding, clash_is_symmetric};
-use xa_manager::actions_fit_states;
-
 /// Units of the core that run side by side have the answers and the changes that they have one after
 /// another.
 pub fn histories_are_serial()
@@ -28,11 +22,11 @@ pub fn histories_are_serial()
     // and with heuristic decisions between them
     ensures decided { DecidedHistoriesAreSerial }
 {
-    changes_are_local();
-    changes_make_tables();
-    clash_is_symmetric();
-    adding();
-    statements_are_framed();
-    units_in_doubt_wait();
-    actions_fit_states();
+    tables::laws::changes_are_local();
+    tables::laws::changes_make_tables();
+    unit_locks::laws::clash_is_symmetric();
+    unit_locks::laws::adding();
+    sql_semantics::laws::statements_are_framed();
+    core_model::laws::units_in_doubt_wait();
+    xa_manager::laws::actions_fit_states();
 }

@@ -8,6 +8,10 @@ ghost use Rattle.serializability.specs.Prepared.{prepared_units};
 ghost use Rattle.serializability.specs.UnitList.{unit_list};
 ghost use Rattle.serializability.specs.SmallStore.{small_words};
 
+pub use crate::answers::{
+    answers_are_serial, answers_belong_to_calls, unfit_statements_are_answered_alike,
+};
+
 /// Units that run side by side have the answers and the changes that they have one after another.
 pub fn units_are_serial()
     // of any list of events after an opening

@@ -2,7 +2,7 @@
 //! over the statements of SQL, and over the histories of the core.
 #![tactic(auto)]
 
-pub mod answers;
+mod answers;
 pub mod histories;
 pub mod laws;
 pub mod statements;

@@ -6,10 +6,6 @@ ghost use Rattle.serializability.specs.Prepared.{prepared_units};
 ghost use Rattle.serializability.specs.UnitList.{unit_list};
 ghost use Rattle.serializability.specs.SqlWords.{sql_words};
 
-use sql_semantics::laws::statements_are_framed;
-use tables::laws::{changes_are_local, changes_make_tables};
-use unit_locks::{adding, clash_is_symmetric};
-
 /// Units that run statements side by side have the answers and the changes that they have one after
 /// another. Of an opening it is asked that its store is one, and that each change of a unit in doubt
 /// lies in a write claim of that unit, a creation in that of `*` too.
@@ -23,9 +19,9 @@ pub fn units_are_serial()
     // the logs that the law speaks of change nothing
     ensures beside { LogsAreBeside sql_words (unit_list sql_words) }
 {
-    changes_are_local();
-    changes_make_tables();
-    clash_is_symmetric();
-    adding();
-    statements_are_framed();
+    tables::laws::changes_are_local();
+    tables::laws::changes_make_tables();
+    unit_locks::laws::clash_is_symmetric();
+    unit_locks::laws::adding();
+    sql_semantics::laws::statements_are_framed();
 }

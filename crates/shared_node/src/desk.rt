@@ -14,7 +14,6 @@ use conversation::{Front, Settings};
 use core_history::Pass;
 use counted_streams::{Reader, Writer};
 use drda_disk::Disk;
-use dss_frames::stays_read;
 use std::alloc::Global;
 use std::io::{Read, Write};
 use std::sync::Wait;
@@ -106,7 +105,7 @@ fn serve_asker<'a, D: Disk, B: Origin<D>, R: Wait + Clock, G: Gate, I: Read, O: 
     ensures lost { IsLost (DeskAsks D.is_modelled D.life B.is) asker.old result asker.new }
     ensures cause { TellsFaults result (counts reader.old writer.old) (counts reader.new writer.new) }
 {
-    stays_read();
+    dss_frames::laws::stays_read();
     match Front::new(alloc, settings) {
         Ok(mut front) => serve(alloc, &mut front, reader, writer, asker, host),
         Err(_) => Served::NoMemory,

@@ -6,8 +6,6 @@ use crate::waiting::Waiting;
 use core_calls::CoreCall;
 use core_history::{Acted, Book, Pass, Wish};
 use drda_disk::{Disk, Flushed, Flusher};
-use recovery::images::calls_go_on;
-use serializability::answers::answers_belong_to_calls;
 use std::marker::{Model, PhantomData};
 use std::sync::Wait;
 use std::time::{Clock, Instant};
@@ -153,7 +151,7 @@ impl<D: Disk, B: Origin<D>> Held<D, B> {
         self.book.bound_rows(bytes);
     }
 
-    /// Does one call of a pass, which may lead a group, and behind a loss considers a checkpoint.
+    /// Does one call of a pass, which may lead a group, and behind a loss and a group considers a checkpoint.
     pub(crate) fn take_turn(
         &mut self,
         pass: &mut Pass,
@@ -169,10 +167,10 @@ impl<D: Disk, B: Origin<D>> Held<D, B> {
         ensures origin { B.is self.old.opening }
         ensures journaled { Journaled D.is_modelled (shown_on D.life self.old.core) (shown_on D.life self.new.core) }
     {
-        calls_go_on::<D>();
+        recovery::laws::calls_go_on::<D>();
         self.book.is_kept();
         let acted = self.act(pass, call, wished, leads);
-        rest_behind(&mut self.book, call);
+        rest_behind(&mut self.book, call, leads);
         self.book.is_kept();
         acted
     }
@@ -191,8 +189,8 @@ impl<D: Disk, B: Origin<D>> Held<D, B> {
         ensures turn { TakesTurn D.is_modelled D.life pass.old (call_of call.now) result pass.new self.old self.new }
         ensures journaled { Journaled D.is_modelled (shown_on D.life self.old.core) (shown_on D.life self.new.core) }
     {
-        calls_go_on::<D>();
-        answers_belong_to_calls();
+        recovery::laws::calls_go_on::<D>();
+        serializability::laws::answers_belong_to_calls();
         self.book.is_kept();
         let Some(wished) = wished else {
             return self.book.act(pass, call);
@@ -208,14 +206,14 @@ impl<D: Disk, B: Origin<D>> Held<D, B> {
         self.book.act(pass, call)
     }
 
-    // Makes together what was taken, for who leads, who alone may, since what is laid ahead waits there for its flush. Nothing is made where
-    // a wish at the pass's place is none of its own.
+    // Makes together what was taken, for who leads, who alone may, since what is laid ahead waits there for its flush. Nothing is made
+    // where a wish at the pass's place is none of its own.
     fn fulfil(&mut self, pass: &Pass, wished: &Asked, leads: bool)
         ensures fulfils { MayFulfil D.life self.old self.new }
         ensures stands { Stands self.old pass.now wished.now → Stands self.new pass.now wished.now }
         ensures journaled { Journaled D.is_modelled (shown_on D.life self.old.core) (shown_on D.life self.new.core) }
     {
-        calls_go_on::<D>();
+        recovery::laws::calls_go_on::<D>();
         self.book.core().is_durable();
         if leads {
             fulfil_where_fair(&mut self.book, &self.wishes, pass, wished);
@@ -231,16 +229,18 @@ ghost use Rattle.recovery.specs.Journaled.{Journaled, shown_on};
 ghost use Rattle.shared_node.specs.Standing.{Stands};
 ghost use Rattle.shared_node.specs.Turns.{MayFulfil};
 
-// Behind a loss a checkpoint is considered.
-fn rest_behind<D: Disk>(book: &mut Book<D>, call: &CoreCall<'_, '_, '_>)
+// Behind a loss, and behind a group, a checkpoint is considered.
+fn rest_behind<D: Disk>(book: &mut Book<D>, call: &CoreCall<'_, '_, '_>, leads: bool)
     ensures rests { Rests book.old.core book.new.core }
     ensures rest { book.new ≡ record book.old { core = book.new.core } }
     ensures journaled { Journaled D.is_modelled (shown_on D.life book.old.core) (shown_on D.life book.new.core) }
 {
-    calls_go_on::<D>();
+    recovery::laws::calls_go_on::<D>();
     book.core().is_durable();
     if matches!(*call, CoreCall::Lost) {
         book.consider_checkpoint();
+    } else if leads {
+        book.consider_behind_group();
     }
 }
 
@@ -257,7 +257,7 @@ fn fulfil_where_fair<D: Disk>(book: &mut Book<D>, wishes: &[Wish], pass: &Pass, 
     ensures stands { Stands book.old pass.now wished.now → Stands book.new pass.now wished.now }
     ensures journaled { Journaled D.is_modelled (shown_on D.life book.old.core) (shown_on D.life book.new.core) }
 {
-    calls_go_on::<D>();
+    recovery::laws::calls_go_on::<D>();
     book.core().is_durable();
     if are_fair(wishes, pass, wished) {
         book.make_together(wishes);

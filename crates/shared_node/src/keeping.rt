@@ -1,6 +1,5 @@
 //! What all conversations keep together.
 
-use conversation::row_bytes;
 use core_calls::{Answer, CoreCall};
 use core_history::Acted;
 use std::sync::atomic::{AtomicU64, Ordering};
@@ -69,8 +68,8 @@ fn left_of(kept: u64, bytes: u64, most: u64) -> u64 {
     most.saturating_sub(kept).min(bytes)
 }
 
-/// What one conversation keeps, and how many bytes it may keep with the rows of its cursors. The first 65,536 are its own, whatever others keep:
-/// so a short answer finds room where others have taken all.
+/// What one conversation keeps, and how many bytes it may keep with the rows of its cursors. The first 65,536 are its own, whatever others
+/// keep: so a short answer finds room where others have taken all.
 #[derive(Clone, Copy)]
 pub(crate) struct Share {
     bytes: u64,
@@ -101,8 +100,8 @@ impl Share {
         true
     }
 
-    /// Before a call, under the lock: how many bytes of rows it may be answered, 0 where it asks for none. All of them are kept until `settle`, so
-    /// that whoever finds no room meanwhile is to ask again under the lock.
+    /// Before a call, under the lock: how many bytes of rows it may be answered, 0 where it asks for none. All of them are kept until
+    /// `settle`, so that whoever finds no room meanwhile is to ask again under the lock.
     pub(crate) fn set_aside(&mut self, keeping: &Keeping, call: &CoreCall<'_, '_, '_>) -> usize {
         if !matches!(call, CoreCall::Query { .. }) {
             return 0;
@@ -140,7 +139,7 @@ fn counted(bytes: u64) -> u64 {
 // The bytes of the rows that a call was answered.
 fn rows_of(acted: &Acted) -> usize {
     match acted {
-        Acted::Answered(Answer::Rows(rows)) => row_bytes(rows),
+        Acted::Answered(Answer::Rows(rows)) => rows.memory(),
         Acted::Answered(_) | Acted::StrangerPass => 0,
     }
 }

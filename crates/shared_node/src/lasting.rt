@@ -3,7 +3,6 @@
 ghost use Rattle.shared_node.specs.Lasting.{AnswersAreDurable, TurnsGoOn};
 
 use crate::origin::Origin;
-use core_history::lasting::kept_books_last;
 use drda_disk::Disk;
 
 /// Whatever is done at the lock leaves the same book: it was opened over the same core, and what was listed stays listed, in its
@@ -19,5 +18,5 @@ pub fn turns_go_on<D: Disk>()
 pub fn answers_are_durable<D: Disk, B: Origin<D>>()
     ensures { AnswersAreDurable D.is_modelled D.life B.is }
 {
-    kept_books_last::<D>();
+    core_history::laws::kept_books_last::<D>();
 }

@@ -85,8 +85,8 @@ impl Begun {
         }
     }
 
-    /// The lock was waited for since this time, and is held again; what the book was like before is forgotten. Of both times that the turn waited
-    /// for the lock, and held it, it tells the longer.
+    /// The lock was waited for since this time, and is held again; what the book was like before is forgotten. Of both times that the turn
+    /// waited for the lock, and held it, it tells the longer.
     pub(crate) fn resume<D: Disk, R: Clock>(
         self,
         rt: &R,

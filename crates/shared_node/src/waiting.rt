@@ -10,8 +10,8 @@ use std::sync::{Condvar, Mutex, Wait};
 use std::time::{Clock, Duration, Instant};
 
 // The wishes that wait, and the groups in which they are fulfilled: which one gathers now, how many were made, and when the wishes of the
-// last one were taken. Of those who sleep, how many are of the group that gathers, and how many of the one that is being made. For how many wishes the leader waits now,
-// 0 where it does not, and for how many the next one does.
+// last one were taken. Of those who sleep, how many are of the group that gathers, and how many of the one that is being made. For how many
+// wishes the leader waits now, 0 where it does not, and for how many the next one does.
 #[derive(Drop)]
 struct Line {
     wishes: Vec<Wish>,
@@ -25,10 +25,10 @@ struct Line {
     returning: Returning,
 }
 
-/// Who waits to commit, to prepare or to decide a branch, beside the lock, which is never waited for while the line is held.
-/// One of a group leads: it takes all wishes and makes the calls of all of them, while the next group gathers, whose wishes nobody takes until then. Before, it lets those calls go that came to the lock before it,
-/// since who made them may commit next, and waits for those who come back. No contract says anything of it; a wish that nobody fulfils is one that its own
-/// conversation does.
+/// Who waits to commit, to prepare or to decide a branch, beside the lock, which is never waited for while the line is held. One of a group
+/// leads: it takes all wishes and makes the calls of all of them, while the next group gathers, whose wishes nobody takes until then.
+/// Before, it lets those calls go that came to the lock before it, since who made them may commit next, and waits for those who come back.
+/// No contract says anything of it; a wish that nobody fulfils is one that its own conversation does.
 #[derive(Drop)]
 pub(crate) struct Waiting {
     line: Mutex<Line>,

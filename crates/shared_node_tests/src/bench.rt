@@ -106,8 +106,8 @@ impl<'r, R: Wait + Clock> Calls for Bench<'r, R> {
         self.desks.ask_xa(conversation, Some(request))
     }
 
-    // `fresh` is a core over a fresh store, `stops N` one whose device fails behind so many calls more, and `core` that of the book; `book` a new
-    // book over it, and `lock` one under a lock; `forget` leaves no pass.
+    // `fresh` is a core over a fresh store, `stops N` one whose device fails behind so many calls more, and `core` that of the book; `book`
+    // a new book over it, and `lock` one under a lock; `forget` leaves no pass.
     fn do_other(
         &mut self,
         _scripts: &Scripts,

@@ -10,7 +10,8 @@ use test_calls::push_text;
 /// A core over a disk in memory that may fail.
 pub type Core = DurableCore<FuseDisk<MemDisk>>;
 
-/// A book, passes in the order in which they were given, from 1 on, wishes to commit, and what became of the flush of a group that was laid ahead.
+/// A book, passes in the order in which they were given, from 1 on, wishes to commit, and what became of the flush of a group that was laid
+/// ahead.
 #[derive(Drop)]
 pub struct Desks {
     pub(crate) alloc: Global,

@@ -124,8 +124,9 @@ impl Desks {
         }
     }
 
-    /// `wish N` is the wish of a pass to commit, and `wish N VERB XID` for a phase of a branch; `lay` lays ahead what was wished for and flushes it, and `settle` tells the book of that;
-    /// `gather` makes it together, and `collect N`, or `collect N VERB XID`, gives what is left for a pass.
+    /// `wish N` is the wish of a pass to commit, and `wish N VERB XID` for a phase of a branch; `lay` lays ahead what was wished for and
+    /// flushes it, and `settle` tells the book of that; `gather` makes it together, and `collect N`, or `collect N VERB XID`, gives what is
+    /// left for a pass.
     pub fn tell_of_groups(&mut self, verb: &str, rest: &str, out: &mut Vec<u8>) -> Option<()> {
         if matches!(verb, "lay" | "settle" | "gather") {
             return self.tell_of_all(verb, out);

@@ -164,8 +164,8 @@ impl Locks {
         format!(in self.alloc; "checkpoint: {is_written}, failed: {has_failed}").ok()
     }
 
-    /// `holds N` and `writes N` are conversations of so many commits, which end with a loss, `back N` gives a pass back, `consider` considers a checkpoint, and `close N..`
-    /// closes the book with these passes.
+    /// `holds N` and `writes N` are conversations of so many commits, which end with a loss, `back N` gives a pass back, `consider`
+    /// considers a checkpoint, and `close N..` closes the book with these passes.
     pub fn tell<R: Wait + Clock>(
         &mut self,
         rt: &R,

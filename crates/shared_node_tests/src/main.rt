@@ -1,5 +1,5 @@
-//! Tests of shared_node: calls of a book, by its own passes and by those of another one, under a lock or not. What each line of standard input comes to goes
-//! to standard output, which is compared.
+//! Tests of shared_node: calls of a book, by its own passes and by those of another one, under a lock or not. What each line of standard
+//! input comes to goes to standard output, which is compared.
 #![tactic(auto)]
 
 mod bench;

@@ -19,7 +19,6 @@ use crate::scope::Scope;
 use core_calls::{SqlFault, StatementError};
 use row_values::{Schema, is_name};
 use sql_changes::GivenRow;
-use sql_semantics::laws::statements_are_framed;
 use std::alloc::{AllocError, Global};
 use std::sync::Arc;
 use tables::TableView;
@@ -82,7 +81,7 @@ pub(crate) fn insert<V: TableView>(
     ensures fault { IfErr result (λ fault. IsTrue V.is_faithful → V.tells_damage fault ≡ false) }
     ensures store { V.store view.new ≡ V.store view.old }
 {
-    statements_are_framed();
+    sql_semantics::laws::statements_are_framed();
     if !is_name(table.as_bytes()) {
         return Ok(Answer::Refused(SqlFault::TableUnknown));
     }

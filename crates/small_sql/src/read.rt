@@ -17,7 +17,6 @@ use row_values::{Damaged, ReadError, RowRef, Schema};
 use sql_predicates::Filter;
 use std::alloc::{AllocError, Global};
 use std::sync::Arc;
-use tables::laws::stores_hold_tables;
 use tables::{RowList, Rows, TableView};
 
 /// The rows that a view gave.
@@ -171,7 +170,7 @@ pub(crate) fn rows_found<V: TableView>(
     ensures fault { IfErr result (λ fault. IsTrue V.is_faithful → V.tells_damage fault ≡ false) }
     ensures store { V.store view.new ≡ V.store view.old }
 {
-    stores_hold_tables();
+    tables::laws::stores_hold_tables();
     let given = looked_up(alloc, view, table, scope)?;
     match counted(alloc, list, given, wanted, view.is_trusted()) {
         Ok(found) => Ok(found),

@@ -24,7 +24,6 @@ use crate::scope::Scope;
 use crate::task::Task;
 use core_calls::SqlFault;
 use row_values::Schema;
-use sql_semantics::laws::statements_are_framed;
 use sql_text::Command;
 use std::alloc::Global;
 use std::sync::Arc;
@@ -71,7 +70,7 @@ fn run_found<V: TableView>(
     ensures fault { IfErr result (λ fault. IsTrue V.is_faithful → V.tells_damage fault ≡ false) }
     ensures store { V.store view.new ≡ V.store view.old }
 {
-    statements_are_framed();
+    sql_semantics::laws::statements_are_framed();
     match task {
         Task::Refused(fault) => Ok(Answer::Refused(*fault)),
         Task::Insert(row) => insert(alloc, table, schema, scope, row, left, view),

@@ -85,11 +85,6 @@ module _ (params : List Value) (cs : List Column) where
       ∙ sym (ap (λ (as_ : List Addend). and_then (summed_from old v bound) (λ w. sum_from params cs old w as_)) (opened left a some first))
       ∙ so old v
 
--- all terms are numbers
-pub classes_end : (b : Bool) (whole : Option SqlFault) → (if b then None else Some fault.TypeMismatch) ≡ whole → whole ≡ type_fault b
-classes_end true whole so = sym so
-classes_end false whole so = sym so
-
 -- ---- the classes of a sum
 
 several_by : (b1 b2 numbers : Bool) (c : List (Option SqlFault)) → first_fault c ≡ type_fault numbers

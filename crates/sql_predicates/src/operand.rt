@@ -13,7 +13,6 @@ ghost use Rattle.sql_predicates.specs.Test.{operand_value, value_at};
 
 use crate::{Constant, column_place};
 use core_calls::{SqlFault, StatementError};
-use row_values::laws::rows_have_values_and_keys;
 use row_values::{Column, Kind, RowRef, Value};
 use sql_text::Term;
 use std::alloc::Global;
@@ -111,7 +110,7 @@ pub(crate) fn column(columns: &[Column], name: &[u8]) -> Result<(usize, u8), Sta
 pub(crate) fn value_at<'a>(row: RowRef<'a>, place: usize) -> Value<'a>
     ensures { value_of result ≡ value_at (values_in (schema_in row.entry) (row_in row.entry)) place }
 {
-    rows_have_values_and_keys();
+    row_values::laws::rows_have_values_and_keys();
     let columns = row.schema().columns();
     if place < columns.len() {
         row.column(place)

@@ -31,7 +31,7 @@ use Rattle.sql_semantics.specs.Keys.{key_of_values, values_key}
 use Rattle.sql_semantics.specs.Create.{defined_schema}
 use Rattle.sql_semantics.specs.Scope.{All, Names, One, Scope, claims, filter_key, scope, scope_by, scope_claims, scope_in, table_name}
 use Rattle.sql_semantics.specs.Meaning.{update_answer, Answer, Changes, Rows, answer, answered, concerns, create_answer, insert_answer, put_answer, within_room}
-use Rattle.sql_semantics.specs.Frame.{HasKey, covered_answer, rows_covered, tables_covered, In, InWrite, Lies, Within, changes_of, claims_in}
+use Rattle.sql_semantics.specs.Frame.{HasKey, In, InWrite, Lies, Within, changes_of}
 use Rattle.core_calls.specs.declared.sql_fault.SqlFault.{SqlFault}
 use Rattle.core_calls.specs.declared.sql_fault.SqlFault.TheVariants as fault
 use Rattle.sql_semantics.proofs.Covering.{Good, first_true, good_table, second_true}
@@ -299,16 +299,3 @@ pub changes_lie : WrittenIsRead → Lies
 changes_lie written params left c s x good i = lies_by written params left c s x (table_of s (table_name c)) (rows_of s (table_name c)) (length s) (good_table s (table_name c) good) refl i
 
 -- ---- of the answer by what is covered
-
--- each schema is one
-abbrev pub Shaped : Store → Type 0
-Shaped s = (q : List ℕ) (schema : Schema) → schema_of s q ≡ Some schema → is_schema schema ≡ true
-
-covered_by : WrittenIsRead → (params : List Value) (left : ℕ) (c : Command) (s : Store) (x : Change) → Shaped s → (q : Option Schema) → schema_of s (table_name c) ≡ q → (rows : List (List ℕ)) (n : ℕ) → Lies_at params left c s x q rows n
-covered_by written params left c s x good None is rows n = absent_lies params left c s x rows n
-covered_by written params left c s x good (Some schema) is rows n = found_lies written params left c s x schema rows n (good (table_name c) schema is)
-
-pub covered_lies : WrittenIsRead → (params : List Value) (left : ℕ) (c : Command) (s : Store) (x : Change) → Shaped s → In x (changes_of (covered_answer params left c s)) → Within s x (claims_in params c s)
-covered_lies written params left c s x good i =
-    let q = schema_of s (table_name c) in
-    covered_by written params left c s x good q refl (rows_covered (scope params c q) (table_name c) s) (tables_covered (scope params c q) s) refl i

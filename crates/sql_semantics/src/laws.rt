@@ -2,8 +2,6 @@
 
 ghost use Rattle.sql_semantics.specs.Frame.{CoveredIsEnough, FrameLaw, Lies, RowsHaveTheirKeys};
 
-use row_values::laws::{keys_are_ordered, values_have_their_bytes};
-
 /// What a statement is answered depends on what it claims alone, and what it changes lies in what it
 /// claims to write.
 pub fn statements_are_framed()
@@ -17,6 +15,6 @@ pub fn statements_are_framed()
     // each change lies in a write claim of its statement
     ensures lies { Lies }
 {
-    keys_are_ordered();
-    values_have_their_bytes();
+    row_values::laws::keys_are_ordered();
+    row_values::laws::values_have_their_bytes();
 }

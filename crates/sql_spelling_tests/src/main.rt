@@ -1,5 +1,5 @@
-//! Tests of sql_spelling. A line `table` has a name, columns and the places of the key, and a line `row` values of the table that was told last; the SQL
-//! that each is, and whether it is parsed, goes to standard output, which is compared.
+//! Tests of sql_spelling. A line `table` has a name, columns and the places of the key, and a line `row` values of the table that was told
+//! last; the SQL that each is, and whether it is parsed, goes to standard output, which is compared.
 #![tactic(auto)]
 
 mod texts;

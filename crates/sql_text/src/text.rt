@@ -19,10 +19,6 @@ use crate::fault::Fault;
 use crate::statement::whole_command;
 use crate::tree::Statement;
 use sql_lex::Cursor;
-use sql_lex::laws::{
-    markers_are_numbered, parts_stand_in_the_text, texts_are_utf8, tokens_are_spelled_so,
-    tokens_lie_apart,
-};
 use std::alloc::Global;
 
 /// The most bytes of a statement's text.
@@ -108,11 +104,11 @@ pub fn parse<'a>(alloc: Global, text: &'a str) -> Result<Statement<'a>, SqlError
     ensures places { IfOk result (λ s. StandFrom text.now 0 (slices_of s)) }
     ensures exact { length text.now ≤ 32767 → Answers (λ s. s) but_memory result (spec.reading text.now) }
 {
-    tokens_are_spelled_so();
-    texts_are_utf8();
-    markers_are_numbered();
-    parts_stand_in_the_text();
-    tokens_lie_apart();
+    sql_lex::laws::tokens_are_spelled_so();
+    sql_lex::laws::texts_are_utf8();
+    sql_lex::laws::markers_are_numbered();
+    sql_lex::laws::parts_stand_in_the_text();
+    sql_lex::laws::tokens_lie_apart();
     let bytes = text.as_bytes();
     if bytes.len() > MAX_TEXT_BYTES {
         return Err(SqlError::Limit);

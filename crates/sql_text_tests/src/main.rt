@@ -1,5 +1,5 @@
-//! Tests of sql_text. Each line of standard input is a text; the tree of the statement that it is, or why it is none, goes to standard output,
-//! which is compared.
+//! Tests of sql_text. Each line of standard input is a text; the tree of the statement that it is, or why it is none, goes to standard
+//! output, which is compared.
 #![tactic(auto)]
 
 mod show;

@@ -50,12 +50,6 @@ row_there l i n lt is =
     let at = slice_get-get_or l.rows i [] lt in
     (get_or l.rows i [], at, subst (λ o. IfSome o (λ row. n ≡ length (answered l row))) at is)
 
-pub fits_first : (l : RowList) (from size : ℕ) → Fits l from size from size
-fits_first l from size =
-    let none : from - from ≡ 0 = omega arith in
-    let all : 0 + size ≡ size = omega arith in
-    (omega arith, ap (λ k. length (rows_text l from k) + size) none ∙ all)
-
 pub fits_on : (l : RowList) (from size i left n : ℕ) → i < length l.rows → IfSome (slice_get l.rows i) (λ row. n ≡ length (answered l row)) → n ≤ left → Fits l from size i left → Fits l from size (i + 1) (left - n)
 fits_on l from size i left n lt is le f =
     let r = row_there l i n lt is in

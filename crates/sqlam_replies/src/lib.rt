@@ -3,6 +3,7 @@
 #![tactic(auto)]
 
 mod in_place;
+pub mod laws;
 mod lengths;
 mod message;
 mod names;
@@ -14,9 +15,7 @@ mod sqlda;
 mod xa_answer;
 
 pub use in_place::{resource_limit, syntax_message};
-pub use lengths::{
-    MAX_MESSAGE_LENGTH, MAX_SQLDARD_LENGTH, NULL_SQLCARD_LENGTH, SQLCARD_LENGTH, texts_have_lengths,
-};
+pub use lengths::{MAX_MESSAGE_LENGTH, MAX_SQLDARD_LENGTH, NULL_SQLCARD_LENGTH, SQLCARD_LENGTH};
 pub use message::{ReplyMessage, UnitEnd, reply_message};
 pub use reply_kind::ReplyKind;
 pub use rows::{block, qrydsc, qrydta};

@@ -13,7 +13,7 @@ use crate::CheckError;
 use crate::half::pages_at;
 use drda_disk::{Disk, PAGE_BYTES};
 use half_store::Active;
-use row_pages::{KeptPage, PageFault, PageKind, Pager, one_page};
+use row_pages::{KeptPage, PageFault, PageKind, Pager};
 use std::alloc::Global;
 
 /// The kind of the page with a number.
@@ -60,7 +60,7 @@ fn is_formed<D: Disk>(
     ensures stays { Stays (D.life pager.old) (D.life pager.new) }
     ensures cause { CountsCheck result (D.life pager.old).faults (D.life pager.new).faults }
 {
-    one_page();
+    row_pages::laws::one_page();
     match pager.page(alloc, at) {
         Ok(page) => Ok(has_rows_of(page, kind)),
         Err(PageFault::Damaged) => Ok(false),

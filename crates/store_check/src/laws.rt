@@ -6,30 +6,25 @@ ghost use Rattle.store_check.specs.Moment.{MomentsHold};
 ghost use Rattle.store_check.specs.Written.{WrittenHalfIsWhole, WrittenIsListed, WrittenIsWhole};
 ghost use Rattle.store_check.specs.Whole.{OneFirstBad, OneWhole, WholeIsNotBad, WholeIsStored};
 
-use checkpoint_writer::catalogues_are_read;
-use key_map::key_order::forms_keep_order;
-use key_map::laws::rows_have_their_forms;
-use row_pages::{one_laying, one_page};
-
 /// Pages that are whole have no first bad one.
 pub fn whole_is_not_bad()
     ensures { WholeIsNotBad }
 {
-    one_page();
+    row_pages::laws::one_page();
 }
 
 /// Pages have one first bad one at most.
 pub fn one_first_bad()
     ensures { OneFirstBad }
 {
-    one_page();
+    row_pages::laws::one_page();
 }
 
 /// Pages are whole with one list of rows at most.
 pub fn one_whole()
     ensures { OneWhole }
 {
-    one_page();
+    row_pages::laws::one_page();
 }
 
 /// Pages that are whole are a table's, as its map asks for them.
@@ -41,14 +36,14 @@ pub fn whole_is_stored()
 pub fn listed_is_not_bad()
     ensures { ListedIsNotBad }
 {
-    one_page();
+    row_pages::laws::one_page();
 }
 
 /// A table that was written is whole, where its rows are rows of the schema.
 pub fn written_is_whole()
     ensures { WrittenIsWhole }
 {
-    one_laying();
+    row_pages::laws::one_laying();
 }
 
 /// A catalogue that was written is whole, where the names of its tables rise and their pages lie one
@@ -56,39 +51,39 @@ pub fn written_is_whole()
 pub fn written_is_listed()
     ensures { WrittenIsListed }
 {
-    one_page();
-    one_laying();
-    catalogues_are_read();
+    row_pages::laws::one_page();
+    row_pages::laws::one_laying();
+    checkpoint_writer::laws::catalogues_are_read();
 }
 
 /// A half that is whole has no first bad page.
 pub fn whole_half_is_not_bad()
     ensures { WholeHalfIsNotBad }
 {
-    one_page();
+    row_pages::laws::one_page();
 }
 
 /// A half has one first bad page at most.
 pub fn one_first_bad_of_half()
     ensures { OneFirstBadOfHalf }
 {
-    one_page();
+    row_pages::laws::one_page();
 }
 
 /// A half is whole with one list of tables and rows at most.
 pub fn one_whole_half()
     ensures { OneWholeHalf }
 {
-    one_page();
+    row_pages::laws::one_page();
 }
 
 /// A half is whole into which tables were written one behind another, and behind them their catalogue.
 pub fn written_half_is_whole()
     ensures { WrittenHalfIsWhole }
 {
-    one_page();
-    one_laying();
-    catalogues_are_read();
+    row_pages::laws::one_page();
+    row_pages::laws::one_laying();
+    checkpoint_writer::laws::catalogues_are_read();
 }
 
 /// The pages of a half have one checkpoint at most, and where they have one, no first bad page. Its tables
@@ -102,8 +97,8 @@ pub fn checkpoints_are_known()
 {
     one_whole_half();
     whole_half_is_not_bad();
-    forms_keep_order();
-    rows_have_their_forms();
+    key_map::laws::forms_keep_order();
+    key_map::laws::rows_have_their_forms();
 }
 
 /// At each moment of a checkpoint an image holds the tables and the records that were there before, in

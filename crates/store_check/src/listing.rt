@@ -12,7 +12,7 @@ ghost use Rattle.store_check.specs.declared.errors.CheckError.TheVariants.{NoMem
 use crate::CheckError;
 use checkpoint_writer::{CatalogueError, StoredTable, read_catalogue};
 use drda_disk::{Disk, PAGE_BYTES};
-use row_pages::{Pager, one_page};
+use row_pages::Pager;
 use std::alloc::Global;
 use std::cmp::Ordering;
 
@@ -120,7 +120,7 @@ fn add_page<D: Disk>(
     ensures stays { Stays (D.life pager.old) (D.life pager.new) }
     ensures cause { CountsCheck result (D.life pager.old).faults (D.life pager.new).faults }
 {
-    one_page();
+    row_pages::laws::one_page();
     let found = match read_catalogue(alloc, pager, at, 1) {
         Ok(found) => found,
         Err(error) => return Err(check_error(error)),

@@ -14,7 +14,7 @@ use crate::CheckError;
 use crate::errors::error_at;
 use crate::rows::{are_rows, first_in};
 use drda_disk::Disk;
-use row_pages::{KeptPage, PageKind, Pager, one_page};
+use row_pages::{KeptPage, PageKind, Pager};
 use row_values::Schema;
 use std::alloc::Global;
 use table_map::{NotedRows, RowKeys};
@@ -69,7 +69,7 @@ pub(crate) fn check_page<K: RowKeys, D: Disk>(
     ensures stays { Stays (D.life pager.old) (D.life pager.new) }
     ensures cause { CountsCheck result (D.life pager.old).faults (D.life pager.new).faults }
 {
-    one_page();
+    row_pages::laws::one_page();
     match pager.page(alloc, at) {
         Ok(page) => judge(alloc, keys, schema, page, at, last, noted),
         Err(fault) => Err(error_at(at, fault)),

@@ -10,7 +10,7 @@ ghost use Rattle.store_check.specs.declared.errors.CheckError.TheVariants.{NoMem
 use crate::CheckError;
 use crate::page::check_page;
 use drda_disk::{Disk, PAGE_BYTES};
-use row_pages::{Pager, one_page};
+use row_pages::Pager;
 use row_values::Schema;
 use std::alloc::Global;
 use table_map::{NotedPages, NotedRows, RowKeys, TablePages};
@@ -54,7 +54,7 @@ pub fn check_table<K: RowKeys, D: Disk>(
     ensures stays { Stays (D.life pager.old) (D.life pager.new) }
     ensures cause { CountsCheck result (D.life pager.old).faults (D.life pager.new).faults }
 {
-    one_page();
+    row_pages::laws::one_page();
     let mut first_keys = Vec::new(alloc);
     let mut last = None;
     let mut rows = NotedRows::none();

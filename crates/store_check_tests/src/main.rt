@@ -1,5 +1,5 @@
-//! Tests of store_check. Each line of standard input has steps, which semicolons part: pages are laid on a disk, bytes of them changed, and what
-//! they are is checked. What a check tells goes to standard output, which is compared.
+//! Tests of store_check. Each line of standard input has steps, which semicolons part: pages are laid on a disk, bytes of them changed, and
+//! what they are is checked. What a check tells goes to standard output, which is compared.
 #![tactic(auto)]
 
 mod checks;

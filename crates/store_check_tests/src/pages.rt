@@ -114,7 +114,8 @@ impl Pages {
         }
     }
 
-    // Tells of how many of the places of a range a byte that is put there, 01, makes the table damaged in its second page, and of how many not.
+    // Tells of how many of the places of a range a byte that is put there, 01, makes the table damaged in its second page, and of how many
+    // not.
     fn tell_each(&self, asked: &str, out: &mut String) -> Result<(), AllocError> {
         let (from, to) = number_in(asked);
         let (to, _) = number_in(to);
@@ -133,8 +134,9 @@ impl Pages {
         Ok(())
     }
 
-    /// Does a step. `begin` takes all pages away, `rows` and `catalogue` lay a page, `put` changes bytes, and `stop` lets so many calls of each
-    /// check through. `table`, `listed` and `half` tell what the pages are, and `each` what they are with a byte at each place of a range.
+    /// Does a step. `begin` takes all pages away, `rows` and `catalogue` lay a page, `put` changes bytes, and `stop` lets so many calls of
+    /// each check through. `table`, `listed` and `half` tell what the pages are, and `each` what they are with a byte at each place of a
+    /// range.
     pub fn answer(&mut self, step: &str, out: &mut String) -> Result<(), AllocError> {
         let (verb, rest) = step.split_once(' ').unwrap_or((step, ""));
         match verb {

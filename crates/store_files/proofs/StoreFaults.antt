@@ -6,33 +6,21 @@ use Rattle.drda_disk.specs.MemDisk.{life_of}
 use Rattle.drda_disk.specs.declared.memory.MemDisk.{MemDisk}
 use Rattle.half_store.specs.Active.{Refusal, Store, active_of}
 use Rattle.half_store.specs.declared.header.Layout.TheVariants.{Two}
-use Rattle.half_store.specs.Fresh.{IsFresh, fresh as fresh_of, is_name, is_store_of}
+use Rattle.half_store.specs.Fresh.{IsFresh, fresh as fresh_of, is_name}
 use Rattle.recovery.specs.Durable.{fresh}
 use Rattle.recovery.specs.Journaled.{OnDisk}
 use Rattle.recovery.specs.Opens.{OpensTo}
 use Rattle.durable_core.specs.Reads.{IsExcused}
 use Rattle.durable_core.specs.declared.errors.OpenError.{OpenError}
 use Rattle.durable_core.specs.declared.errors.OpenError.TheVariants as errors
-use Rattle.store_files.proofs.Names.{no_store}
 use Rattle.store_files.specs.Endings.{fault_for}
 use Rattle.store_files.specs.InMemory.{BeginsFresh, syncs_in_memory}
 use Rattle.store_files.specs.Opening.{HasSettled, IsOpened}
-use Rattle.store_files.specs.Stores.{FindsFresh, IsOfDevice, MakesFile, MakesNamed}
+use Rattle.store_files.specs.Stores.{FindsFresh, IsOfDevice, MakesNamed}
 use Rattle.store_files.specs.declared.fault.Fault.{Fault}
 use Rattle.store_files.specs.declared.fault.Fault.TheVariants.{BadArguments, BadEvent, Damaged, Device, NoMemory, NoRoom, NotAStore, NotInDoubt}
 
 -- ---- making
-
-pub makes_file : (size : ℕ) (rdb : List ℕ) (r : Result (Unit {0}) Fault) → is_store_of size rdb ≡ true → MakesNamed rdb r → MakesFile size rdb r
-makes_file size rdb (Ok done) is named = is
-makes_file size rdb (Err BadArguments) is named = no_store size rdb named
-makes_file size rdb (Err Device) is named = is
-makes_file size rdb (Err NotAStore) is named = absurd named
-makes_file size rdb (Err (Damaged at)) is named = absurd named
-makes_file size rdb (Err BadEvent) is named = absurd named
-makes_file size rdb (Err NoMemory) is named = is
-makes_file size rdb (Err NotInDoubt) is named = absurd named
-makes_file size rdb (Err NoRoom) is named = absurd named
 
 -- ---- opening
 

@@ -14,8 +14,9 @@ use std::alloc::Global;
 /// How many bytes are written at once.
 const AT_ONCE: usize = 1_048_576;
 
-/// Writes zeros over a disk, so that the system has its blocks and no later write finds none. The first 8,192 bytes are left: a store's mark
-/// stands there, and its head is written whole when it is made. A crash meanwhile leaves no store. Memory for a mebibyte may be refused.
+/// Writes zeros over a disk, so that the system has its blocks and no later write finds none. The first 8,192 bytes are left: a store's
+/// mark stands there, and its head is written whole when it is made. A crash meanwhile leaves no store. Memory for a mebibyte may be
+/// refused.
 pub fn reserve_blocks<D: Disk>(alloc: Global, disk: &mut D) -> Result<(), Fault>
     ensures size { length (D.life disk.new).seen ≡ length (D.life disk.old).seen }
     ensures moments { IsUnmarked (D.life disk.old) → LeavesOnly (D.life disk.old) (D.life disk.new) (λ image. is_marked image ≡ false) }

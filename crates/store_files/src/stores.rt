@@ -16,7 +16,6 @@ use crate::files::StoreFiles;
 use drda_disk::{Disk, MemDisk};
 use durable_core::{DurableCore, OpenError};
 use half_store::{FormatError, format, is_store};
-use recovery::images::fresh_stores_open;
 use std::alloc::Global;
 
 /// The bytes of a store in memory.
@@ -144,7 +143,7 @@ pub fn fresh(alloc: Global, rdb: &str) -> Result<DurableCore<MemDisk>, Fault>
     if !is_store(MEMORY_SIZE, rdb) {
         return Err(Fault::BadArguments);
     }
-    fresh_stores_open();
+    recovery::laws::fresh_stores_open();
     let mut disk = MemDisk::new(alloc, MEMORY_SIZE)?;
     disk.set_aside(WRITES_AT_ONCE, MEMORY_SIZE)?;
     match make(alloc, &mut disk, rdb) {

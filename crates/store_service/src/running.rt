@@ -7,34 +7,28 @@ ghost use Rattle.store_service.specs.Running.{TellsFaults, IsStore, RunsCore, Ru
 
 use counted_streams::{Reader, Ready, Writer};
 use drda_disk::Disk;
-use drda_node::laws::calls_are_histories;
-use drda_node::serial::machines_are_serial;
 use drda_node::{DurableCore, Node, RunEnd, Settings, SettingsError, open, run};
 use durable_core::OpenError;
-use recovery::openings::openings_begin_histories;
-use recovery::step_laws::openings_are_kept;
 use std::alloc::Global;
 use std::io::Write;
 
 /// Opens the store of a disk, answers event records from `reader` on `writer` for this user as `drda_node::run`
 /// does, and hands the disk back.
 ///
-/// What is read of the disk opens to a state: committed tables, and units in doubt with their claims; a crash may
-/// leave other images of it, as of the disk of a server that was killed. The opening's first device call is a sync, before
-/// anything is read, and behind that a crash leaves what is read. Then what is written is the answers of a machine of plain tables that begins
-/// with that state (`Runs`). The calls that were asked, with these answers, lead from that state to the last one, and
-/// the units that were committed by them have a serial order (`SerialRun`), where each change of a unit that was
-/// found in doubt lies in its write claims. The records of what its calls committed, prepared and decided, in their order, lead from
-/// that state to what is durable of the machine. At every moment since the sync, inside of a device call too, a crash
-/// leaves an image that opens to the state after the first of these records, of those that are made together all or none;
-/// and behind the run, to the state after all that was made, or with it all that was begun in the call in which the
-/// device failed. The run is a chain of stations, one behind each event, and what stood on the disk at one is there
-/// at each later moment: so every answered commit is there, and every unit answered as prepared and undecided
-/// is in doubt, holding its claims.
+/// What is read of the disk opens to a state: committed tables, and units in doubt with their claims; a crash may leave other images of it,
+/// as of the disk of a server that was killed. The opening's first device call is a sync, before anything is read, and behind that a crash
+/// leaves what is read. Then what is written is the answers of a machine of plain tables that begins with that state (`Runs`). The calls
+/// that were asked, with these answers, lead from that state to the last one, and the units that were committed by them have a serial order
+/// (`SerialRun`), where each change of a unit that was found in doubt lies in its write claims. The records of what its calls committed,
+/// prepared and decided, in their order, lead from that state to what is durable of the machine. At every moment since the sync, inside of
+/// a device call too, a crash leaves an image that opens to the state after the first of these records, of those that are made together all
+/// or none; and behind the run, to the state after all that was made, or with it all that was begun in the call in which the device failed.
+/// The run is a chain of stations, one behind each event, and what stood on the disk at one is there at each later moment: so every
+/// answered commit is there, and every unit answered as prepared and undecided is in doubt, holding its claims.
 ///
-/// Refused, nothing is written: memory was refused, the device failed, which its count of faults tells too, and before
-/// anything is read where it failed in that first sync, or the name of the store is none of a database (`NotAStore`). A disk that does not open to a state is refused as
-/// `durable_core::open` says.
+/// Refused, nothing is written: memory was refused, the device failed, which its count of faults tells too, and before anything is read
+/// where it failed in that first sync, or the name of the store is none of a database (`NotAStore`). A disk that does not open to a state
+/// is refused as `durable_core::open` says.
 pub fn run_store<D: Disk + Drop, R: Ready, W: Write>(
     alloc: Global,
     disk: D,
@@ -47,10 +41,10 @@ pub fn run_store<D: Disk + Drop, R: Ready, W: Write>(
         → RunsStore D.life D.syncs name d user.now password.now disk (R.remaining (source_of reader.old)) (W.contents (sink_of writer.old)) result (W.contents (sink_of writer.new)) }
     ensures cause { TellsFaults result.1 (counts reader.old writer.old) (counts reader.new writer.new) }
 {
-    openings_begin_histories();
-    openings_are_kept();
-    calls_are_histories();
-    machines_are_serial();
+    recovery::laws::openings_begin_histories();
+    recovery::laws::openings_are_kept();
+    drda_node::laws::calls_are_histories();
+    drda_node::laws::machines_are_serial();
     match open(alloc, disk) {
         Ok(core) => run_core(alloc, core, user, password, reader, writer),
         Err(refused) => (refused.disk, Err(refused.error)),

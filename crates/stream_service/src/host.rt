@@ -5,8 +5,8 @@ use conversation::Access;
 /// Whose guest a conversation is: it says how much its cursors may keep, and looks on as it comes towards the database. What is said of
 /// the service does not depend on it.
 pub trait Host {
-    /// With so many bytes of rows kept for its open cursors a conversation opens no further one, as where memory is refused; nor one that would
-    /// bring them past it, where who is asked knows the bound.
+    /// With so many bytes of rows kept for its open cursors a conversation opens no further one, as where memory is refused; nor one that
+    /// would bring them past it, where who is asked knows the bound.
     fn cursor_bytes(&self) -> usize {
         usize::MAX
     }

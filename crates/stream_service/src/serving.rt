@@ -12,7 +12,6 @@ use command_kit::Ask;
 use conversation::{Access, Budget, Front, Heard, feed_some};
 use core_calls::CoreCall;
 use counted_streams::{Reader, Writer};
-use dss_frames::stays_read;
 use std::alloc::{AllocError, Global};
 use std::io::{Read, Write};
 
@@ -22,8 +21,8 @@ const PIECE: usize = 65_536;
 /// Answers of more bytes are written before the next command is done.
 const LONG: usize = 65_536;
 
-/// What is kept of a command that is not whole. Before a database is opened no command of use is longer than 64 KiB; then eight data objects
-/// of 1 MiB each and their request are the most.
+/// What is kept of a command that is not whole. Before a database is opened no command of use is longer than 64 KiB; then eight data
+/// objects of 1 MiB each and their request are the most.
 const KEPT: Budget = Budget {
     unopened: 65_536,
     opened: 9_437_184,
@@ -46,12 +45,11 @@ pub enum Served {
     NoMemory,
 }
 
-/// Serves a conversation over a stream whose halves are handed in. Its bytes are heard as they are read,
-/// as many at once as are there up to 65,536, and what it is answered to them is written before the next
-/// are read, and before the next command where it is longer than 65,536 bytes; so it goes on until the stream ends or fails, the conversation is closed or memory is refused.
-/// Whatever ends it, the last call of `asker` is that the conversation is lost: a unit of work that it left
-/// open ends without its changes. `front` begins anew then: the memory of what came, in which a password may stand, is
-/// overwritten before it is given back.
+/// Serves a conversation over a stream whose halves are handed in. Its bytes are heard as they are read, as many at once as are there up to
+/// 65,536, and what it is answered to them is written before the next are read, and before the next command where it is longer than 65,536
+/// bytes; so it goes on until the stream ends or fails, the conversation is closed or memory is refused. Whatever ends it, the last call of
+/// `asker` is that the conversation is lost: a unit of work that it left open ends without its changes. `front` begins anew then: the
+/// memory of what came, in which a password may stand, is overwritten before it is given back.
 ///
 /// No more than 64 KiB are kept of a command before a database is opened, and then 9 MiB: one that goes on past that ends
 /// the service as refused memory does. `host` says how much open cursors may keep. Before a database is opened it is told of each read
@@ -100,7 +98,7 @@ fn converse<A: Ask, R: Read, W: Write, H: Host>(
     ensures converses { IfSome (R.remaining (source_of reader.old)) (λ input. Converses A.asks front.old.settings (attended_by front.old asker.old) input (W.contents (sink_of writer.old)) result (W.contents (sink_of writer.new)) (attended_by front.new asker.new)) }
     ensures cause { TellsFaults result (counts reader.old writer.old) (counts reader.new writer.new) }
 {
-    stays_read();
+    dss_frames::laws::stays_read();
     let Ok(mut buffer) = room_for_a_piece(alloc) else {
         return Served::NoMemory;
     };
@@ -149,7 +147,7 @@ fn answer_piece<A: Ask, W: Write, H: Host>(
     ensures answers { AnswersPiece A.asks front.old.settings (attended_by front.old asker.old) piece.now (W.contents (sink_of writer.old)) result (W.contents (sink_of writer.new)) (attended_by front.new asker.new) }
     ensures faults { CountsWriting result (write_faults_of writer.old) (write_faults_of writer.new) }
 {
-    stays_read();
+    dss_frames::laws::stays_read();
     let mut taken = 0;
     'hearing: loop {
         let most = most_gathered(front.access());

@@ -7,7 +7,6 @@ use conversation::{Front, Settings};
 use core_calls::{Answer, CoreCall};
 use counted_streams::{Reader, Writer};
 use drda_disk::{Disk, FuseDisk, MemDisk};
-use dss_frames::stays_read;
 use durable_core::{DurableCore, open};
 use half_store::format;
 use std::alloc::{AllocError, Global};
@@ -55,7 +54,7 @@ pub fn serve_over<D: Disk, R: Read, W: Write, H: Host>(
     writer: &mut Writer<W>,
     host: &mut H,
 ) -> Option<Served> {
-    stays_read();
+    dss_frames::laws::stays_read();
     let settings = Settings::new(alloc, "ana", "pw", "SHOP").ok()?;
     let Ok(mut front) = Front::new(alloc, &settings) else {
         return None;

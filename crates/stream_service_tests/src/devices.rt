@@ -7,8 +7,8 @@ use crate::streams::{AT_ONCE, Manner};
 use std::alloc::{AllocError, Global};
 use stream_service::Served;
 
-// How a conversation is served over a store whose device fails behind so many calls, how often it is read, and whether it is answered just so.
-// None where the store is not opened.
+// How a conversation is served over a store whose device fails behind so many calls, how often it is read, and whether it is answered just
+// so. None where the store is not opened.
 fn served_behind(
     alloc: Global,
     calls: u64,
@@ -38,8 +38,8 @@ fn places_failed(alloc: Global, input: &[u8], wanted: &[u8], given: usize) -> Op
     None
 }
 
-/// Tells in how many places the device fails in the request but one, all up to which come in one piece, so that it is answered so and the last
-/// request is not read. Behind these places that is read.
+/// Tells in how many places the device fails in the request but one, all up to which come in one piece, so that it is answered so and the
+/// last request is not read. Behind these places that is read.
 pub fn tell_places(
     alloc: Global,
     text: &str,

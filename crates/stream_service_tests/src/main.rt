@@ -1,5 +1,5 @@
-//! Tests of stream_service: conversations over streams that are whole, in bytes, and broken. Each line of standard input is one; what became
-//! of it goes to standard output, which is compared.
+//! Tests of stream_service: conversations over streams that are whole, in bytes, and broken. Each line of standard input is one; what
+//! became of it goes to standard output, which is compared.
 #![tactic(auto)]
 
 mod conversations;
@@ -49,8 +49,8 @@ fn hear(rt: &HostRuntime, text: &str, part: &str, out: &mut String) -> Result<()
     done
 }
 
-// Writes down a line, and what it comes to: how the streams behave, requests behind a colon, and what they are to be answered behind <. A line without a colon
-// asks for nothing.
+// Writes down a line, and what it comes to: how the streams behave, requests behind a colon, and what they are to be answered behind <. A
+// line without a colon asks for nothing.
 fn answer(
     rt: &HostRuntime,
     core: &mut Core,

@@ -15,7 +15,6 @@ use crate::RowKeys;
 use crate::base::RowsLeft;
 use crate::changes::ChangesLeft;
 use drda_disk::Disk;
-use key_map::laws::changes_and_rows_in_turn;
 use row_pages::PageFault;
 use std::alloc::Global;
 use std::cmp::Ordering;
@@ -97,7 +96,7 @@ impl<'a> RowCursor<'a> {
         ensures pages { self.new.base.pages ≡ self.old.base.pages }
         ensures fewer { Falls result self.old self.new }
     {
-        changes_and_rows_in_turn();
+        key_map::laws::changes_and_rows_in_turn();
         match self.smaller(keys) {
             Smaller::End => Step::End,
             Smaller::Row => {

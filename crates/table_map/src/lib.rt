@@ -6,7 +6,7 @@ mod changes;
 mod cursor;
 mod finding;
 mod keys;
-mod laws;
+pub mod laws;
 mod noted;
 mod page_scan;
 mod pages;
@@ -18,7 +18,6 @@ mod whole_pages;
 
 pub use cursor::RowCursor;
 pub use keys::RowKeys;
-pub use laws::stored_tables_are_whole;
 pub use noted::{ListedRows, NotedPages, NotedRows};
 pub use pages::{JudgedRow, TablePages};
 pub use schema_keys::SchemaKeys;

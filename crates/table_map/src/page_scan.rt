@@ -21,7 +21,6 @@ use crate::RowKeys;
 use crate::changes::ChangesLeft;
 use crate::pages::Bounds;
 use drda_disk::Disk;
-use key_map::laws::changes_and_rows_in_turn;
 use row_pages::{JudgedPage, KeptPage, PageFault, PageKind, Pager};
 use row_values::Schema;
 use std::alloc::{AllocError, Global};
@@ -49,7 +48,7 @@ fn push_row<K: RowKeys>(
 ) -> Result<(), AllocError>
     ensures { OnOk result (Passes (K.key_of keys.now) (row.now ∷ []) changes.old changes.new rows.old rows.new) }
 {
-    changes_and_rows_in_turn();
+    key_map::laws::changes_and_rows_in_turn();
     loop {
         match changes.stands_to(keys, row) {
             Ordering::Less => push_change(rows, changes.take())?,
@@ -145,7 +144,7 @@ pub(crate) fn scan_page<K: RowKeys, D: Disk>(
 fn push_changes(changes: &mut ChangesLeft<'_>, rows: &mut Rows) -> Result<(), AllocError>
     ensures { OnOk result (InOrder (map change_of changes.old) → rows.new ≡ rows.old ++ without_keys (merged [] (map change_of changes.old))) }
 {
-    changes_and_rows_in_turn();
+    key_map::laws::changes_and_rows_in_turn();
     while let Some(entry) = changes.take() {
         push_change(rows, Some(entry))?;
     }

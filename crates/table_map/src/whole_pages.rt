@@ -10,7 +10,6 @@ ghost use Rattle.table_map.specs.Whole.{FallsBy, GivesPage, StandsApart, TakesMo
 
 use crate::{RowCursor, RowKeys};
 use drda_disk::Disk;
-use key_map::laws::changes_and_rows_in_turn;
 use row_pages::{KeptPage, PageFault};
 use std::alloc::Global;
 
@@ -54,7 +53,7 @@ impl<'a> RowCursor<'a> {
         ensures stays { Stays (D.life disk.old) (D.life disk.new) }
         ensures cause { CountsPageFault result (D.life disk.old).faults (D.life disk.new).faults }
     {
-        changes_and_rows_in_turn();
+        key_map::laws::changes_and_rows_in_turn();
         self.base.settle(alloc, disk)?;
         if self.stands_apart(keys, room) {
             Ok(self.base.take_page())

@@ -128,8 +128,8 @@ fn tell_pages<D: Disk>(
     }
 }
 
-/// Tells what a line asks for, of a table of so many pages: `get` a row by the key of a row, `rows` all of them, `whole` the pages that
-/// are given whole, and `count` how many pages they take. Changes that are made first stand in front of it, each with a semicolon behind it.
+/// Tells what a line asks for, of a table of so many pages: `get` a row by the key of a row, `rows` all of them, `whole` the pages that are
+/// given whole, and `count` how many pages they take. Changes that are made first stand in front of it, each with a semicolon behind it.
 pub fn tell_asked<D: Disk>(
     alloc: Global,
     schema: &Schema,

@@ -53,8 +53,9 @@ impl Table {
         })
     }
 
-    /// Writes a line down, and does what it asks for, or tells what it comes to: `narrow` and `wide` begin a table, `page` lays a page of rows, which commas part,
-    /// and `bytes` one of these bytes; `fuse` lets so many calls through. All else asks for rows. None without memory.
+    /// Writes a line down, and does what it asks for, or tells what it comes to: `narrow` and `wide` begin a table, `page` lays a page of
+    /// rows, which commas part, and `bytes` one of these bytes; `fuse` lets so many calls through. All else asks for rows. None without
+    /// memory.
     pub fn answer(&mut self, line: &str, out: &mut Vec<u8>) -> Option<()> {
         push_line(out, line)?;
         let (verb, rest) = line.split_once(' ').unwrap_or((line, ""));

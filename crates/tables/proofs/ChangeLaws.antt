@@ -1,16 +1,14 @@
 -- The bytes of changes are read back, and what is read was written so.
-use Rattle.std.proofs.Common.{◌==◌, ◌≡◌, ℕ, ◌<◌, ◌≤◌, suc, List, [], ◌∷◌, ◌++◌, Bool, true, false, if◌then◌else◌, refl, sym, ap, subst, ◌∙◌, length, nat_le, Some, None, option_map, arith, append_assoc, eqb-true, Result, Ok, Err}
+use Rattle.std.proofs.Common.{◌==◌, ◌≡◌, ℕ, ◌<◌, ◌≤◌, suc, List, [], ◌∷◌, ◌++◌, Bool, true, false, if◌then◌else◌, refl, sym, ap, subst, ◌∙◌, length, nat_le, Some, None, option_map, arith, append_assoc, eqb-true}
 use Rattle.std.specs.Option.{option_and_then}
 use Rattle.std.proofs.lemmas.Bool.Decides.{nat_tests}
 use Rattle.row_values.specs.Schema.{Schema, is_name, is_schema}
 use Rattle.row_values.specs.Row.{counted, counted_at}
 use Rattle.tables.specs.Change.{Change, create, put, remove, change_after, change_at, change_bytes, is_change, short_at}
-use Rattle.row_values.specs.Bytes.{name_at, named, schema_at, schema_bytes, Reads}
+use Rattle.row_values.specs.Bytes.{name_at, named, schema_at, schema_bytes}
 use Rattle.row_values.proofs.RowLaws.{counted_back}
 use Rattle.row_values.proofs.ValueLaws.{chained, counted_is, first_true, mapped, second_true, both_true}
 use Rattle.row_values.proofs.ByteSteps.{name_good, schema_good, tested, taken}
-use Rattle.row_values.specs.declared.row.ReadError.{ReadError}
-use Rattle.std.specs.Prelude.{IfOk}
 use Rattle.drda_words.specs.Bytes.{AreBytes}
 use Rattle.row_values.proofs.ByteLaws.{name_back, name_is, schema_back, schema_is}
 
@@ -38,10 +36,6 @@ change_cases false false false name bytes x good h = absurd cc
 pub change_good : (code : ℕ) (name bytes : List ℕ) (x : Change × List ℕ) → is_name name ≡ true → change_after code name bytes ≡ Some x → is_change x.0 ≡ true
 unfolding change_after
 change_good code name bytes x good h = change_cases (code == 1) (code == 2) (code == 3) name bytes x good h
-
-pub reads_good : {X : Type 0} (view : X → Change × List ℕ) (r : Result X ReadError) (code : ℕ) (name bytes : List ℕ) → is_name name ≡ true → Reads view r (change_after code name bytes) → IfOk r (λ x. is_change (view x).0 ≡ true)
-reads_good view (Ok x) code name bytes good is = change_good code name bytes (view x) good is
-reads_good view (Err e) code name bytes good is = tt
 
 short_back : (limit : ℕ) (bytes rest : List ℕ) → limit < 65536 → nat_le (length bytes) limit ≡ true → short_at limit (counted bytes ++ rest) ≡ Some (bytes, rest)
 short_back limit bytes rest small h =

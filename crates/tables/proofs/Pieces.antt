@@ -1,12 +1,12 @@
 -- Rows in one buffer.
-use Rattle.std.proofs.Common.{◌≡◌, ℕ, ◌+◌, ◌-◌, ◌<◌, ◌≤◌, ◌==◌, zero, suc, List, [], ◌∷◌, ◌++◌, true, refl, sym, ap, ◌∙◌, length, take, drop, nat_le, Some, arith, eqb-true, length-append, slice_index_or, subst}
+use Rattle.std.proofs.Common.{◌≡◌, ℕ, ◌+◌, ◌-◌, ◌*◌, ◌<◌, ◌≤◌, ◌==◌, zero, suc, List, [], ◌∷◌, ◌++◌, true, refl, sym, ap, ◌∙◌, length, take, drop, nat_le, Some, arith, eqb-true, length-append, slice_index_or, subst}
 use Rattle.std.specs.List.{slice_get}
 use Rattle.std.proofs.lemmas.Bool.Decides.{nat_tests}
-use Rattle.std.proofs.lemmas.List.{drop-append-le, length-drop, take-append-le, take_all}
+use Rattle.std.proofs.lemmas.List.{drop-append-le, length-drop, length-take, take-append-le, take_all}
 use Rattle.std.proofs.lemmas.Option.{slice_get-get_or}
 use Rattle.std.proofs.Math.Seq.{drop-append_seam}
 use Rattle.drda_words.specs.Place.{part}
-use Rattle.tables.specs.Rows.{are_ends, pieces}
+use Rattle.tables.specs.Rows.{are_ends, memory_of, pieces}
 use Rattle.row_values.proofs.ValueLaws.{both_true, first_true, second_true}
 
 first_end : (start e : ℕ) (es : List ℕ) (n : ℕ) → are_ends start (e ∷ es) n ≡ true → start ≤ e
@@ -134,3 +134,18 @@ fits_at ends bytes i h some inside = later_fits ends bytes i (i - 1) (next_of i 
 
 pub piece_at : (ends bytes : List ℕ) (i : ℕ) → are_ends 0 ends (length bytes) ≡ true → 0 < i → i < length ends → slice_get (pieces 0 ends bytes) i ≡ Some (part bytes (slice_index_or ends (i - 1) 0) (slice_index_or ends i 0 - slice_index_or ends (i - 1) 0))
 piece_at ends bytes i h some inside = later_is ends bytes i (i - 1) (next_of i some) h inside
+
+-- ---- what they take in memory
+
+memory_from : (start : ℕ) (ends bytes : List ℕ) → are_ends start ends (length bytes) ≡ true → memory_of (pieces start ends bytes) + start ≡ length bytes + 8 * length ends
+memory_from start [] bytes h = let same : start ≡ length bytes = eqb-true start (length bytes) h in omega arith
+memory_from start (e ∷ es) bytes h =
+    let rises = first_end start e es (length bytes) h in
+    let within = ends_within e es (length bytes) (later_ends start e es (length bytes) h) in
+    let rest = memory_from e es bytes (later_ends start e es (length bytes) h) in
+    let size : length (part bytes start (e - start)) ≡ e - start = omega (arith, length-take (e - start) (drop start bytes), length-drop start bytes) in
+    omega arith
+
+-- as the buffer tells it
+pub memory_taken : (ends bytes : List ℕ) → are_ends 0 ends (length bytes) ≡ true → memory_of (pieces 0 ends bytes) ≡ length bytes + 8 * length ends
+memory_taken ends bytes h = let all = memory_from 0 ends bytes h in omega arith

@@ -6,32 +6,15 @@ use Rattle.std.specs.Map.{lookup}
 use Rattle.std.specs.BTreeMap.{insert_entry}
 use Rattle.std.specs.Ordering.{is_gt, match_ordering}
 use Rattle.std.proofs.lemmas.Bool.Decides.{nat_tests}
-use Rattle.std.proofs.lemmas.List.{drop_all}
 use Rattle.std.proofs.lemmas.List.Folds.{find_at}
 use Rattle.std.proofs.lemmas.Option.{slice_get_read}
 use Rattle.std.proofs.lemmas.List.Quantifiers.{position-Some}
-use Rattle.row_values.proofs.ReadSteps.{drop_at}
 
 -- ---- counting from the front
 
 -- the items before place i pass, and the count goes on from there
 abbrev pub CountsOn : {A : Type 0} → (A → Bool) → List A → ℕ → Type 0
 CountsOn p xs i = prefix_len p (drop i xs) + i ≡ prefix_len p xs
-
-pub count_stops : {A : Type 0} (p : A → Bool) (xs : List A) (i : ℕ) (x : A) → slice_get xs i ≡ Some x → p x ≡ false → CountsOn p xs i → i ≡ prefix_len p xs
-count_stops p xs i x at fails so =
-    let none : prefix_len p (drop i xs) ≡ 0 = ap (prefix_len p) (drop_at xs i x at) ∙ ap (λ b. cond b (1 + prefix_len p (drop (i + 1) xs)) 0) fails in
-    omega arith
-
-pub count_goes_on : {A : Type 0} (p : A → Bool) (xs : List A) (i : ℕ) (x : A) → slice_get xs i ≡ Some x → p x ≡ true → CountsOn p xs i → CountsOn p xs (i + 1)
-count_goes_on p xs i x at passes so =
-    let one : prefix_len p (drop i xs) ≡ 1 + prefix_len p (drop (i + 1) xs) = ap (prefix_len p) (drop_at xs i x at) ∙ ap (λ b. cond b (1 + prefix_len p (drop (i + 1) xs)) 0) passes in
-    omega arith
-
-pub count_ends : {A : Type 0} (p : A → Bool) (xs : List A) (i : ℕ) → length xs ≤ i → CountsOn p xs i → i ≡ prefix_len p xs
-count_ends p xs i past so =
-    let none : prefix_len p (drop i xs) ≡ 0 = ap (prefix_len p) (drop_all i xs past) in
-    omega arith
 
 -- ---- what is found
 

@@ -1,5 +1,5 @@
 -- Rows in one buffer.
-use Rattle.std.specs.Prelude.{ℕ, ◌-◌, Bool, List, [], ◌∷◌, ◌&&◌, ◌==◌, nat_le}
+use Rattle.std.specs.Prelude.{ℕ, ◌+◌, ◌-◌, Bool, List, [], ◌∷◌, ◌&&◌, ◌==◌, length, nat_le}
 use Rattle.drda_words.specs.Place.{part}
 
 -- the pieces of the bytes that end at these places, the first one beginning at start
@@ -11,3 +11,8 @@ pieces start (end ∷ ends) bytes = part bytes start (end - start) ∷ pieces en
 abbrev pub are_ends : ℕ → List ℕ → ℕ → Bool
 are_ends start [] count = start == count
 are_ends start (end ∷ ends) count = nat_le start end && are_ends end ends count
+
+-- the bytes that rows take in memory: their own, and 8 for where each ends
+abbrev pub memory_of : List (List ℕ) → ℕ
+memory_of [] = 0
+memory_of (row ∷ rows) = length row + 8 + memory_of rows

@@ -1,9 +1,10 @@
 //! The rows of a query.
 
-ghost use Rattle.std.specs.Prelude.{◌≡◌, ◌<◌, ◌∷◌, [], ◌++◌, OnErr, OnOk, ◌==◌, length, true};
+ghost use Rattle.std.specs.Prelude.{◌≡◌, ◌-◌, ◌^◌, ◌<◌, ◌∷◌, [], ◌++◌, OnErr, OnOk, ◌==◌, length, min, true};
 ghost use Rattle.row_values.specs.Row.{is_row};
 ghost use Rattle.std.specs.List.{list_all};
 ghost use Rattle.tables.specs.RowList.{is_list, is_selection};
+ghost use Rattle.tables.specs.Rows.{memory_of};
 ghost use Rattle.tables.specs.Lent.{IsRowAt};
 ghost use Rattle.std.specs.Arc.{arc_value};
 
@@ -83,6 +84,13 @@ impl RowList {
         ensures { result ≡ (length self.now.rows == 0) }
     {
         self.rows.is_empty()
+    }
+
+    /// The bytes that its rows take in memory: their own, and 8 for where each ends. It stops at 2^64 - 1.
+    pub fn memory(&self) -> usize
+        ensures { result ≡ min (memory_of self.now.rows) (2 ^ 64 - 1) }
+    {
+        self.rows.memory()
     }
 
     /// The schema of the rows.

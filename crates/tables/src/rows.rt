@@ -1,8 +1,8 @@
 //! Rows in one buffer.
 
-ghost use Rattle.std.specs.Prelude.{◌≡◌, ◌<◌, ◌∷◌, [], ◌++◌, IfOk, OnErr, OnOk, Some, ◌==◌, length, true};
+ghost use Rattle.std.specs.Prelude.{◌≡◌, ◌-◌, ◌^◌, ◌<◌, ◌∷◌, [], ◌++◌, IfOk, OnErr, OnOk, Some, ◌==◌, length, min, true};
 ghost use Rattle.std.specs.List.{slice_get};
-ghost use Rattle.tables.specs.Rows.{are_ends, pieces};
+ghost use Rattle.tables.specs.Rows.{are_ends, memory_of, pieces};
 
 use std::alloc::{AllocError, Global};
 use std::marker::Model;
@@ -70,6 +70,16 @@ impl Rows {
         ensures { result ≡ (length self.now == 0) }
     {
         self.ends.is_empty()
+    }
+
+    /// The bytes that the rows take in memory: their own, and 8 for where each ends. It stops at 2^64 - 1.
+    #[tactic(auto, using(crate::proofs::Pieces::memory_taken))]
+    pub fn memory(&self) -> usize
+        ensures { result ≡ min (memory_of self.now) (2 ^ 64 - 1) }
+    {
+        self.bytes
+            .len()
+            .saturating_add(self.ends.len().saturating_mul(8))
     }
 
     /// The bytes of row `i`, counted from 0.

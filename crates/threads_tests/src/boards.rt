@@ -141,7 +141,8 @@ impl Board {
         false
     }
 
-    /// The disk is in one more sync, and does there what is asked for, in its order. A sync beside another one counts as late: it waits for nobody.
+    /// The disk is in one more sync, and does there what is asked for, in its order. A sync beside another one counts as late: it waits for
+    /// nobody.
     pub fn reach_sync(&self, files: &HostRuntime, alloc: Global) {
         let sync = self.syncs.fetch_add(1, Ordering::SeqCst);
         let Some(mut guard) = self.stands.try_lock() else {

@@ -1,5 +1,5 @@
-//! Conversations that are served side by side, a thread for each. A line of standard input says what conversations say and where they, and the disk,
-//! wait for each other; what became of them goes to standard output, which is compared.
+//! Conversations that are served side by side, a thread for each. A line of standard input says what conversations say and where they, and
+//! the disk, wait for each other; what became of them goes to standard output, which is compared.
 #![tactic(auto)]
 
 mod boards;

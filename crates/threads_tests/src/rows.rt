@@ -12,8 +12,8 @@ use std::thread::Threads;
 use std::time::Clock;
 use test_bytes::bytes_of;
 
-/// Bytes by their names, a core, conversations that are still to be served over it with their cues and those of the disk, and what became of
-/// the lines so far.
+/// Bytes by their names, a core, conversations that are still to be served over it with their cues and those of the disk, and what became
+/// of the lines so far.
 #[derive(Drop)]
 pub struct Rows<'r, R> {
     house: House<'r, R>,
@@ -110,9 +110,9 @@ impl<'r, R: Threads + Wait + Clock + Sync> Rows<'r, R> {
         Some(())
     }
 
-    // `name` gives bytes a name, and `fresh` is a core over a fresh store. `talks` lays conversations, `cue` a cue, `order` those of calls that
-    // are made one after the other, and `sync` what the disk does in a sync. `serve` serves the conversations, and `crowd` such of which the last
-    // one comes until it is heard. `crash` opens what a crash leaves.
+    // `name` gives bytes a name, and `fresh` is a core over a fresh store. `talks` lays conversations, `cue` a cue, `order` those of calls
+    // that are made one after the other, and `sync` what the disk does in a sync. `serve` serves the conversations, and `crowd` such of
+    // which the last one comes until it is heard. `crash` opens what a crash leaves.
     fn answer(&mut self, verb: &str, rest: &str) -> Option<()> {
         match verb {
             "name" => self.lay_name(rest),

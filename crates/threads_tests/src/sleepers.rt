@@ -1,5 +1,5 @@
-//! Who sleeps, as the system tells of this process's threads. A thread that waits for a cue yields, and does not sleep; one that has a wish, waits for
-//! the lock or lets others go first does, and by nothing else can be seen that it has come so far.
+//! Who sleeps, as the system tells of this process's threads. A thread that waits for a cue yields, and does not sleep; one that has a
+//! wish, waits for the lock or lets others go first does, and by nothing else can be seen that it has come so far.
 
 use std::alloc::Global;
 use std::fs::File;
@@ -20,8 +20,8 @@ struct Sleepers {
     seen: String,
 }
 
-/// Whether so many threads sleep, at one moment, beside the one that lets conversations in. It is looked twice: who was never switched to between
-/// has slept all the while.
+/// Whether so many threads sleep, at one moment, beside the one that lets conversations in. It is looked twice: who was never switched to
+/// between has slept all the while.
 pub fn are_asleep(files: &HostRuntime, alloc: Global, number: u64) -> bool {
     match (who_sleeps(files, alloc), who_sleeps(files, alloc)) {
         (Some(first), Some(second)) => {

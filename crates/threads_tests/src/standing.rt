@@ -7,9 +7,9 @@ use crate::boards::Board;
 use drda_disk::{Disk, DiskFault, Flushed, Flusher};
 use std::alloc::Global;
 
-/// Passes each call on to the disk inside, of which it is not known that it gives back what was written. In front of a sync it does what a board asks
-/// for, with the lock held by the one whose sync it is. Threads get it, so it has the host itself to look who sleeps: what it had by a type parameter
-/// would be known in the thread that made it alone. It waits for nobody's lock.
+/// Passes each call on to the disk inside, of which it is not known that it gives back what was written. In front of a sync it does what a
+/// board asks for, with the lock held by the one whose sync it is. Threads get it, so it has the host itself to look who sleeps: what it
+/// had by a type parameter would be known in the thread that made it alone. It waits for nobody's lock.
 #[derive(Drop)]
 pub struct StandingDisk<'r, D: Disk> {
     files: HostRuntime,

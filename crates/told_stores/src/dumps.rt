@@ -15,12 +15,9 @@ use conversation::write_whole;
 use drda_disk::Disk;
 use durable_core::DurableCore;
 use paged_tables::PagedTables;
-use recovery::laws::records_lead_to_sound_states;
-use recovery::step_laws::openings_are_kept;
 use std::alloc::{AllocError, Global};
 use std::fmt::Write as _;
 use std::io::Write;
-use store_check::checkpoints_are_known;
 use store_dump::DumpError;
 use store_files::{Fault, StoreFiles, flush, open_file};
 use xa_calls::Xid;
@@ -40,9 +37,9 @@ pub fn dump<F: StoreFiles, W: Write>(
 ) -> Result<(), Fault>
     ensures { Dumps F.Disk.is_modelled F.Disk.life F.calls path.now files.old (W.contents out.old) result files.new (W.contents out.new) }
 {
-    records_lead_to_sound_states();
-    checkpoints_are_known();
-    openings_are_kept();
+    recovery::laws::records_lead_to_sound_states();
+    store_check::laws::checkpoints_are_known();
+    recovery::laws::openings_are_kept();
     let core = open_file(alloc, files, path)?;
     dump_core(alloc, core, out)
 }

@@ -4,11 +4,8 @@ ghost use Rattle.told_stores.specs.Telling.{Checks, Lists, TellsRoom};
 
 use crate::doubts::doubt_text;
 use crate::rooms::room_text;
-use recovery::laws::records_lead_to_sound_states;
-use recovery::step_laws::openings_are_kept;
 use std::alloc::Global;
 use std::io::Write;
-use store_check::checkpoints_are_known;
 use store_files::{Fault, StoreFiles, open_file, tell};
 
 /// Lists the units in doubt, a line each.
@@ -20,9 +17,9 @@ pub fn list_doubts<F: StoreFiles, W: Write>(
 ) -> Result<(), Fault>
     ensures { Lists F.Disk.is_modelled F.Disk.life F.calls path.now files.old (W.contents out.old) result files.new (W.contents out.new) }
 {
-    records_lead_to_sound_states();
-    checkpoints_are_known();
-    openings_are_kept();
+    recovery::laws::records_lead_to_sound_states();
+    store_check::laws::checkpoints_are_known();
+    recovery::laws::openings_are_kept();
     let core = open_file(alloc, files, path)?;
     let text = doubt_text(alloc, &core)?;
     tell(&text, out)
@@ -37,9 +34,9 @@ pub fn tell_room<F: StoreFiles, W: Write>(
 ) -> Result<(), Fault>
     ensures { TellsRoom F.Disk.is_modelled F.Disk.life F.calls path.now files.old (W.contents out.old) result files.new (W.contents out.new) }
 {
-    records_lead_to_sound_states();
-    checkpoints_are_known();
-    openings_are_kept();
+    recovery::laws::records_lead_to_sound_states();
+    store_check::laws::checkpoints_are_known();
+    recovery::laws::openings_are_kept();
     let core = open_file(alloc, files, path)?;
     let gauge = core.gauge();
     let text = room_text(alloc, core, gauge)?;

@@ -28,12 +28,6 @@ next ts i t is lt = drop-cons ts i t lt ∙ ap (λ (y : TableChanges). y ∷ dro
 abbrev one_of : Store → UnitTable → ℕ
 one_of s t = cond (is_some (schema_of s t.name)) 0 1
 
-pub lacking_next : (ts : List TableChanges) (i : ℕ) (t : TableChanges) (s : Store) → t ≡ get_or ts i t → i < length ts → lacking (map told_by (drop i ts)) s ≡ cond (is_some (schema_of s (told_by t).name)) 0 1 + lacking (map told_by (drop (i + 1) ts)) s
-lacking_next ts i t s is lt = ap (λ (l : List TableChanges). lacking (map told_by l) s) (next ts i t is lt)
-
-pub new_next : (ts : List TableChanges) (i : ℕ) (t : TableChanges) (s : Store) → t ≡ get_or ts i t → i < length ts → IsNewIn s (told_by t) → AreNew (map told_by (drop (i + 1) ts)) s → AreNew (map told_by (drop i ts)) s
-new_next ts i t s is lt here rest = subst (λ (l : List TableChanges). AreNew (map told_by l) s) (sym (next ts i t is lt)) (here, rest)
-
 pub at_end : (ts : List TableChanges) (i : ℕ) (s : Store) → length ts ≤ i → (lacking (map told_by (drop i ts)) s ≡ 0) × AreNew (map told_by (drop i ts)) s
 at_end [] zero s h = (refl, tt)
 at_end [] (suc i) s h = (refl, tt)

@@ -50,11 +50,6 @@ rows_have_bytes schema [] good is =
     absurd (never (sym (ap (λ (o : Option (List Value)). is_some o) none) ∙ is))
 rows_have_bytes schema (b ∷ bytes) good is = refl
 
--- room stays, for all steps
-pub room_kept : (a b : Slots) → ((q : List ℕ) → HasRoom q a → HasRoom q b) → (ks : List KeyChange) → HaveRoom a ks → HaveRoom b ks
-room_kept a b kept [] h = tt
-room_kept a b kept (k ∷ ks) h = (kept k.form.items h.0, room_kept a b kept ks h.1)
-
 pub put_said : (schema : Schema) (row form copy : List ℕ) → is_schema schema ≡ true → is_row schema row ≡ true → form ≡ sort_form schema (row_key schema row) → copy ≡ row
     → ◌≡◌ {A = Changes} ((form, said copy) ∷ []) (cond (is_row schema row) ((sort_form schema (row_key schema row), Some row) ∷ []) [])
 put_said schema row form copy good is at same =

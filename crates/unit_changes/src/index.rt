@@ -11,13 +11,9 @@ ghost use Rattle.unit_changes.specs.Index.{AreOf, IsIndex, fresh, is_named};
 
 use crate::table_changes::TableChanges;
 use key_map::Overlay;
-use key_map::key_order::forms_keep_order;
-use key_map::laws::changes_win;
 use row_values::Schema;
-use row_values::laws::keys_are_ordered;
 use std::alloc::{AllocError, Global};
 use std::sync::Arc;
-use tables::laws::{changes_are_local, changes_make_tables};
 use tables::{Action, Change};
 
 /// Records the changes, which are all of one table. Out of memory, nothing is recorded.
@@ -31,11 +27,11 @@ pub(crate) fn index_changes(
     ensures good { OnOk result (list_all is_change (map change_of changes.now) ≡ true) }
     ensures kept { OnErr result (map table_of tables.new.items ≡ map table_of tables.old.items) }
 {
-    changes_are_local();
-    changes_make_tables();
-    changes_win();
-    forms_keep_order();
-    keys_are_ordered();
+    tables::laws::changes_are_local();
+    tables::laws::changes_make_tables();
+    key_map::laws::changes_win();
+    key_map::laws::forms_keep_order();
+    row_values::laws::keys_are_ordered();
     let [first, ..] = changes else {
         return Ok(());
     };

@@ -9,9 +9,7 @@ ghost use Rattle.unit_changes.specs.KeyChanges.{said_in, step_of};
 ghost use Rattle.unit_changes.specs.UnitTable.{SaysKeys, said_by};
 
 use crate::bytes::see_bytes;
-use key_map::laws::rows_have_their_forms;
 use key_map::{row_form, sort_form};
-use row_values::laws::rows_have_values_and_keys;
 use row_values::{RowRef, Schema, is_key};
 use std::alloc::{AllocError, Global};
 use tables::{Action, Change};
@@ -72,8 +70,8 @@ fn put_of(
     ensures bytes { OnOk result (SaysKeys schema.now (put_change table.now row.now)) }
 {
     let _columns = schema.columns();
-    rows_have_their_forms();
-    rows_have_values_and_keys();
+    key_map::laws::rows_have_their_forms();
+    row_values::laws::rows_have_values_and_keys();
     let Ok(_parsed) = RowRef::parse(schema, row) else {
         return Ok(None);
     };

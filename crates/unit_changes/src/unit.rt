@@ -20,7 +20,6 @@ use row_values::{Schema, is_name};
 use std::alloc::{AllocError, Global};
 use std::marker::Model;
 use std::sync::Arc;
-use tables::laws::{changes_are_local, changes_make_tables, stores_are_what_they_show};
 use tables::{Change, TableView};
 
 /// The most bytes that the changes of a unit have when they are written.
@@ -137,9 +136,9 @@ impl UnitChanges {
         ensures fault { IfErr result (λ fault. IsTrue V.is_faithful → V.tells_damage fault ≡ false) }
         ensures store { V.store base.new ≡ V.store base.old }
     {
-        changes_are_local();
-        changes_make_tables();
-        stores_are_what_they_show();
+        tables::laws::changes_are_local();
+        tables::laws::changes_make_tables();
+        tables::laws::stores_are_what_they_show();
         count_lacking(self.tables.as_slice(), base, alloc)
     }
 
@@ -149,7 +148,7 @@ impl UnitChanges {
         ensures schemas { (s : Store) (q : List ℕ) (schema : SchemaValue) → schema_of s q ≡ Some schema → schema_of (apply_all self.now s) q ≡ Some schema }
     {
         let _left = self.left;
-        changes_are_local();
+        tables::laws::changes_are_local();
     }
 }
 

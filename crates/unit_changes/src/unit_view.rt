@@ -11,12 +11,9 @@ ghost use Rattle.unit_changes.specs.TableChanges.{table_of};
 use crate::same_schema::are_same;
 use crate::table_changes::TableChanges;
 use crate::unit::UnitChanges;
-use key_map::key_order::forms_keep_order;
-use key_map::laws::changes_and_rows_in_turn;
 use row_values::{Schema, is_key};
 use std::alloc::{AllocError, Global};
 use std::sync::Arc;
-use tables::laws::stores_hold_tables;
 use tables::{Rows, TableView};
 
 /// The fault of want of memory, which tells no damage.
@@ -125,9 +122,9 @@ fn rows_under<V: TableView>(
     ensures fault { IfErr result (λ fault. IsTrue V.is_faithful → V.tells_damage fault ≡ false) }
     ensures store { V.store base.new ≡ V.store base.old }
 {
-    forms_keep_order();
-    changes_and_rows_in_turn();
-    stores_hold_tables();
+    key_map::laws::forms_keep_order();
+    key_map::laws::changes_and_rows_in_turn();
+    tables::laws::stores_hold_tables();
     changes.keep_stores();
     let below = base.scan(alloc, table)?;
     let Some(told) = changes.table(table) else {

@@ -26,9 +26,6 @@ pub record ReadSoFar (image : List ℕ) (start at : ℕ) (rs : List Record) : Ty
   pub short : AreShort (entries_of rs)
   pub placed : ArePlaced start rs
 
-pub read_none : (image : List ℕ) (start : ℕ) → ReadSoFar image start start []
-read_none image start = record { spelled = refl; place = omega arith; short = tt; placed = tt }
-
 placed_push : (start : ℕ) (rs : List Record) (r : Record) → ArePlaced start rs → r.at ≡ start + length (laid (entries_of rs)) → ArePlaced start (rs ++ r ∷ [])
 placed_push start [] r all is = (is ∙ omega arith, tt)
 placed_push start (d ∷ rs) r all is = (all.0, placed_push (start + 6 + length d.body.items) rs r all.1 (omega (arith, is, length-laid-cons (entry_of d) (entries_of rs))))

@@ -39,9 +39,6 @@ four_small h size a b c d (suc (suc zero)) = c
 four_small h size a b c d (suc (suc (suc zero))) = d
 four_small h size a b c d (suc (suc (suc (suc i)))) = let none : get_or h (suc (suc (suc (suc i)))) 0 ≡ 0 = get_or_past h (suc (suc (suc (suc i)))) 0 (omega (arith, size)) in omega (arith, none)
 
-pub gate_is : (image gate : List ℕ) (at : ℕ) → at < length image → gate ≡ part image at 1 → get_or image at 0 ≡ get_or gate 0 0
-gate_is image gate at low is = ap (λ (l : List ℕ). get_or l 0 0) (sym (byte_part image at low) ∙ sym is)
-
 first_of : (l : List ℕ) → get_or (take 1 l) 0 0 ≡ get_or l 0 0
 first_of [] = refl
 first_of (x ∷ xs) = refl

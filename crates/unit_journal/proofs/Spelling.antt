@@ -6,7 +6,7 @@ use Rattle.drda_disk.specs.Disk.{overlaid, Torn}
 use Rattle.drda_disk.specs.Images.{Torn-overlaid}
 use Rattle.drda_disk.specs.Region.{end_of}
 use Rattle.drda_disk.specs.declared.region.Region.{Region}
-use Rattle.drda_disk.proofs.Parts.{part-add, part_before, part-overlaid}
+use Rattle.drda_disk.proofs.Parts.{part-add, part-overlaid}
 use Rattle.unit_journal.specs.Record.{Entry, behind, laid, AreShort}
 use Rattle.unit_journal.specs.Stands.{StandsFrom, Stands}
 
@@ -61,13 +61,3 @@ started region file new some inside is =
       inside = omega (arith, inside, torn.size);
       short = tt;
     }
-
--- a closed gate is written behind records
-pub closed_behind : (region : Region) (es : List Entry) (file new : List ℕ) (next : ℕ) → part file region.at (length (laid es)) ≡ laid es → next ≡ region.at + length (laid es) → next < end_of region → end_of region ≤ length file → AreShort es
-    → new ≡ overlaid file next (0 ∷ []) → Stands region es new
-closed_behind region es file new next spelled place low inside short is =
-    let fits : next + 1 ≤ length file = omega (arith, low, inside) in
-    let torn : Torn next 1 file new = subst (λ (l : List ℕ). Torn next 1 file l) (sym is) (Torn-overlaid file next (0 ∷ []) fits) in
-    let byte : part new next 1 ≡ 0 ∷ [] = ap (λ (l : List ℕ). part l next 1) is ∙ part-overlaid file next (0 ∷ []) fits in
-    let there : get_or new next 0 ≡ 0 = ap (λ (l : List ℕ). get_or l 0 0) (sym (byte_part new next (omega (arith, fits, torn.size))) ∙ byte) in
-    stands_from region.at (end_of region) es new (part_before file new next region.at (length (laid es)) torn.before (omega arith) ∙ spelled) next place (λ opened. absurd (omega (arith, there, opened))) low (omega (arith, inside, torn.size)) short

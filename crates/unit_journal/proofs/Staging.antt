@@ -88,18 +88,6 @@ module _ (modelled : Bool) (old : Life) (s : Staged) (es : List Entry) (u : IsUn
 
 -- ---- what was laid is given up, and others write nothing
 
--- with nothing laid
-pub was_dropped : (modelled : Bool) (disk : Life) (s after : Staged) (es : List Entry) → journal_of after ≡ journal_of s → ahead_of after ≡ [] → is_settled after ≡ is_settled s
-    → IsUnderWay modelled disk s es → IsUnderWay modelled disk after es
-was_dropped modelled disk s after es journal none settled u = record {
-  modelled_disk = u.modelled_disk;
-  images = λ c now. subst (λ (j : Journal). IsBeforeOrAfterAll j.region disk.seen es [] c) (sym journal) (u.images c now);
-  stands = subst (λ (j : Journal). Stands j.region es disk.seen) (sym journal) u.stands;
-  next = subst (λ (j : Journal). j.next ≡ j.region.at + length (laid es)) (sym journal) u.next;
-  body = ap (λ (l : List Entry). part disk.seen (next_of after + 1) (length (laid l))) none ∙ ap (λ (l : List Entry). body_of l) (sym none);
-  rest = λ (is : _). u.rest (sym settled ∙ is);
-}
-
 module _ (modelled : Bool) (old new : Life) (s : Staged) (es : List Entry) (u : IsUnderWay modelled old s es) (stays : Stays old new) where
   pub staying : LeavesOnly old new (IsBeforeOrAfterAll (region_of s) old.seen es [])
   staying = stays_leaves old new (IsBeforeOrAfterAll (region_of s) old.seen es []) stays u.images

@@ -3,8 +3,7 @@ ghost use Rattle.std.specs.Prelude.{◌≡◌, ◌+◌, ◌-◌, ◌^◌, ◌<�
 ghost use Rattle.drda_disk.specs.Region.{end_of, SameOutside};
 ghost use Rattle.drda_disk.specs.Disk.{Only, LeavesOnly, CountsFault};
 
-use crate::record::CLOSED;
-use drda_disk::{Disk, DiskFault, Full, Region, write_through};
+use drda_disk::{CLOSED_GATE, Disk, DiskFault, Full, Region, write_through};
 
 /// The records of a region of a disk, one behind another from its first byte on, with a closed gate
 /// behind the last. Some of the room behind that can be held back for records to come.
@@ -36,7 +35,7 @@ impl Journal {
         ensures others { SameOutside region (D.life disk.old).seen (D.life disk.new).seen }
         ensures cause { CountsFault result (D.life disk.old).faults (D.life disk.new).faults }
     {
-        write_through(disk, region.at, &[CLOSED])?;
+        write_through(disk, region.at, &[CLOSED_GATE])?;
         Ok(Journal {
             region,
             next: region.at,

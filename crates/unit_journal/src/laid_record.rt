@@ -3,7 +3,8 @@ ghost use Rattle.std.specs.Prelude.{◌≡◌, ◌+◌, ◌^◌, ◌<◌, ◌≤
 ghost use Rattle.unit_journal.specs.Record.{behind, body_in};
 
 use crate::Kind;
-use crate::record::{CLOSED, HEAD_BYTES, head_of};
+use crate::record::{HEAD_BYTES, head_of};
+use drda_disk::CLOSED_GATE;
 use std::alloc::{AllocError, Global};
 
 /// The bytes before a record's body but for its gate: its kind and the length of the body.
@@ -55,7 +56,7 @@ impl LaidRecord {
         ensures room { vec_len bytes < vec_capacity bytes → IsOk result }
     {
         set_front(&mut bytes, kind);
-        bytes.push(CLOSED)?;
+        bytes.push(CLOSED_GATE)?;
         Ok(LaidRecord { kind, bytes })
     }
 

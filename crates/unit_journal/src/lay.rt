@@ -7,9 +7,9 @@ ghost use Rattle.unit_journal.specs.Record.{laid, behind, entry_of, entries_of};
 ghost use Rattle.unit_journal.specs.Stands.{Stands};
 ghost use Rattle.unit_journal.specs.Errors.{SaysFullToLay, OnRefusedToLay, CountsLay};
 
-use crate::record::{CLOSED, HEAD_BYTES, head_of};
+use crate::record::{HEAD_BYTES, head_of};
 use crate::{Journal, LayError, Record};
-use drda_disk::{Disk, Full, Region};
+use drda_disk::{CLOSED_GATE, Disk, Full, Region};
 use std::alloc::{AllocError, Global};
 
 /// How many bytes records take that are laid one behind another, up to 2^64 - 1.
@@ -45,7 +45,7 @@ fn laid_bytes(alloc: Global, records: &[Record], len: usize) -> Result<Vec<u8>, 
     for item in records {
         push_record(&mut bytes, item)?;
     }
-    bytes.push(CLOSED)?;
+    bytes.push(CLOSED_GATE)?;
     Ok(bytes)
 }
 

@@ -7,9 +7,6 @@ ghost use Rattle.unit_journal.specs.Kind.{code_of};
 use crate::Kind;
 use drda_disk::OPEN_GATE;
 
-/// What a journal writes to close a gate. Behind one nothing is read.
-pub(crate) const CLOSED: u8 = 0;
-
 /// The bytes of a record in front of its body: its gate, its kind, and the length of the body in four bytes.
 pub const HEAD_BYTES: usize = 6;
 

@@ -1,5 +1,5 @@
 -- What becomes of the lists of a row where one is set, or an empty one is added.
-use Rattle.std.proofs.Common.{◌≡◌, ◌≢◌, ◌<◌, ◌≤◌, ◌+◌, ℕ, zero, suc, List, [], ◌∷◌, ◌++◌, refl, sym, ap, ◌∙◌, length, arith, Option, Some, None, slice_get, slice_set, get_or, Bool, true}
+use Rattle.std.proofs.Common.{◌≡◌, ◌≢◌, ◌<◌, ◌≤◌, ◌+◌, ℕ, zero, suc, List, [], ◌∷◌, ◌++◌, refl, sym, ap, ◌∙◌, length, arith, Option, Some, slice_get, slice_set, get_or, Bool, true}
 use Rattle.std.specs.Global.{Vec}
 use Rattle.unit_locks.specs.Lists.{list_at, or_empty, row_at}
 use Rattle.unit_locks.specs.Index.{Finds}
@@ -26,16 +26,6 @@ pub list_is : {X : Type 0} (lists : List (Vec X)) (k : ℕ) (d : Vec X) → k < 
 list_is [] k d lt = absurd (omega (arith, lt))
 list_is (x ∷ lists) zero d lt = refl
 list_is (x ∷ lists) (suc k) d lt = list_is lists k d (omega (arith, lt))
-
-pub list_found : {X : Type 0} (lists : List (Vec X)) (k : ℕ) (list : Vec X) → slice_get lists k ≡ Some list → list_at lists k ≡ list.items
-list_found [] k list is = absurd cc
-list_found (x ∷ lists) zero list is = let same : x ≡ list = cc in ap (λ v. v.items) same
-list_found (x ∷ lists) (suc k) list is = list_found lists k list is
-
-pub list_missing : {X : Type 0} (lists : List (Vec X)) (k : ℕ) → slice_get lists k ≡ None → list_at lists k ≡ []
-list_missing [] k is = refl
-list_missing (x ∷ lists) zero is = absurd cc
-list_missing (x ∷ lists) (suc k) is = list_missing lists k is
 
 pub list_past : {X : Type 0} (lists : List (Vec X)) (k : ℕ) → length lists ≤ k → list_at lists k ≡ []
 list_past [] k le = refl

@@ -13,7 +13,6 @@ ghost use Rattle.unit_records.specs.Records.{IsChange};
 use row_values::ReadError;
 use std::alloc::Global;
 use tables::Change;
-use tables::laws::changes_have_their_bytes;
 use unit_locks::Claim;
 use xa_calls::{BadXid, Xid};
 
@@ -76,7 +75,7 @@ fn take_counted_claims(
 ) -> Result<(Vec<Claim>, &[u8]), ReadError>
     ensures { TakesFront (λ x. (x.0.items, x.1.now)) (flat_map claim_bytes) (AreSo IsClaim count) bytes.now result }
 {
-    unit_locks::one_reading();
+    unit_locks::laws::one_reading();
     let mut claims = Vec::new(alloc);
     let mut left = bytes;
     for _ in 0..count {
@@ -97,7 +96,7 @@ fn take_counted_changes(
 ) -> Result<(Vec<Change>, &[u8]), ReadError>
     ensures { TakesFront (λ x. (map change_of x.0.items, x.1.now)) (flat_map change_bytes) (AreSo IsChange count) bytes.now result }
 {
-    changes_have_their_bytes();
+    tables::laws::changes_have_their_bytes();
     let mut changes = Vec::new(alloc);
     let mut left = bytes;
     for _ in 0..count {
@@ -129,6 +128,6 @@ fn take_claim(alloc: Global, bytes: &[u8]) -> Result<(Claim, &[u8]), ReadError>
 fn take_change(alloc: Global, bytes: &[u8]) -> Result<(Change, &[u8]), ReadError>
     ensures { TakesFront (λ x. (change_of x.0, x.1.now)) change_bytes IsChange bytes.now result }
 {
-    changes_have_their_bytes();
+    tables::laws::changes_have_their_bytes();
     Change::read(alloc, bytes)
 }

@@ -4,8 +4,6 @@ ghost use Rattle.unit_records.specs.Laws.{OneReading, PartsStandOnce, WrittenIsR
 ghost use Rattle.unit_records.specs.Room.{DecisionsAreShort, DecisionsFit, DecisionsNeedNoRoom, HeuristicsFit};
 ghost use Rattle.unit_records.specs.Together.{CallsGoTogether};
 
-use tables::laws::changes_have_their_bytes;
-
 /// A body is one record at most of its kind, and what can be written is read from its bytes.
 pub fn records_have_one_reading()
     ensures once { OneReading }
@@ -27,9 +25,9 @@ pub fn decisions_have_room()
 pub(crate) fn parts_stand_once()
     ensures { PartsStandOnce }
 {
-    changes_have_their_bytes();
-    unit_locks::one_reading();
-    xa_calls::one_reading();
+    tables::laws::changes_have_their_bytes();
+    unit_locks::laws::one_reading();
+    xa_calls::laws::one_reading();
 }
 
 /// Calls that are made together, each about another unit: each is answered that it was done and makes the record due that its

@@ -105,7 +105,7 @@ fn names_a_branch(bytes: &[u8])
     ensures named { IsXid bytes.now }
     ensures short { length bytes.now ≤ 140 }
 {
-    xa_calls::one_reading();
+    xa_calls::laws::one_reading();
 }
 
 // The bytes of the changes without their number.

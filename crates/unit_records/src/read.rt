@@ -7,7 +7,6 @@ ghost use Rattle.unit_records.specs.Records.{decision_byte};
 ghost use Rattle.unit_records.specs.Read.{ReadsRecord};
 
 use crate::fronts::{take_changes, take_claims, take_xid};
-use crate::laws::parts_stand_once;
 use crate::record::UnitRecord;
 use row_values::ReadError;
 use std::alloc::Global;
@@ -23,7 +22,7 @@ const ROLL_BACK: u8 = 2;
 pub(crate) fn read_commit(alloc: Global, body: &[u8]) -> Result<UnitRecord, ReadError>
     ensures { ReadsRecord kind.Commit body.now result }
 {
-    parts_stand_once();
+    crate::laws::parts_stand_once();
     let (changes, rest) = match take_changes(alloc, body) {
         Ok(taken) => taken,
         Err(error) => return Err(error),
@@ -38,7 +37,7 @@ pub(crate) fn read_commit(alloc: Global, body: &[u8]) -> Result<UnitRecord, Read
 pub(crate) fn read_prepare(alloc: Global, body: &[u8]) -> Result<UnitRecord, ReadError>
     ensures { ReadsRecord kind.Prepare body.now result }
 {
-    parts_stand_once();
+    crate::laws::parts_stand_once();
     let (xid, rest) = match take_xid(body) {
         Ok(taken) => taken,
         Err(error) => return Err(error),
@@ -65,7 +64,7 @@ pub(crate) fn read_prepare(alloc: Global, body: &[u8]) -> Result<UnitRecord, Rea
 pub(crate) fn read_decide(body: &[u8]) -> Result<UnitRecord, ReadError>
     ensures { ReadsRecord kind.Decide body.now result }
 {
-    parts_stand_once();
+    crate::laws::parts_stand_once();
     let (xid, rest) = match take_xid(body) {
         Ok(taken) => taken,
         Err(error) => return Err(error),
@@ -80,7 +79,7 @@ pub(crate) fn read_decide(body: &[u8]) -> Result<UnitRecord, ReadError>
 pub(crate) fn read_heuristic(body: &[u8]) -> Result<UnitRecord, ReadError>
     ensures { ReadsRecord kind.Heuristic body.now result }
 {
-    parts_stand_once();
+    crate::laws::parts_stand_once();
     let (xid, rest) = match take_xid(body) {
         Ok(taken) => taken,
         Err(error) => return Err(error),
@@ -95,7 +94,7 @@ pub(crate) fn read_heuristic(body: &[u8]) -> Result<UnitRecord, ReadError>
 pub(crate) fn read_forget(body: &[u8]) -> Result<UnitRecord, ReadError>
     ensures { ReadsRecord kind.Forget body.now result }
 {
-    parts_stand_once();
+    crate::laws::parts_stand_once();
     let (xid, rest) = match take_xid(body) {
         Ok(taken) => taken,
         Err(error) => return Err(error),

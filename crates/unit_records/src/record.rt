@@ -3,7 +3,6 @@
 ghost use Rattle.unit_records.specs.Records.{IsRecord, UnitRecord as RecordIs};
 ghost use Rattle.unit_records.specs.Read.{Gives, ReadsRecord};
 
-use crate::laws::records_have_one_reading;
 use crate::read::{read_commit, read_decide, read_forget, read_heuristic, read_prepare};
 use row_values::ReadError;
 use std::alloc::Global;
@@ -51,7 +50,7 @@ impl UnitRecord {
         ensures reads { ReadsRecord kind body.now result }
         ensures gives { (r : RecordIs) → IsRecord kind body.now r → Gives r result }
     {
-        records_have_one_reading();
+        crate::laws::records_have_one_reading();
         match kind {
             Kind::Commit => read_commit(alloc, body),
             Kind::Prepare => read_prepare(alloc, body),

@@ -20,7 +20,6 @@ use core_calls::{Answer, Refusal, Side, SqlFault};
 use row_values::Schema;
 use small_sql::{Answer as SqlAnswer, Bound};
 use sql_descriptions::Description;
-use sql_semantics::laws::statements_are_framed;
 use sql_text::{Command, Statement};
 use std::alloc::{AllocError, Global};
 use tables::{Change, TableView};
@@ -64,7 +63,7 @@ where
     ensures answer { IfOk result (λ r. IsTrue V.is_faithful → (params : List SqlValue) (c : SqlCommand) → IsBound params c bound.now → answer_of r.answer ≡ meant (frame.covered_answer params left c (V.store view.old))) }
     ensures changes { IfOk result (λ r. IsTrue V.is_faithful → (params : List SqlValue) (c : SqlCommand) → IsBound params c bound.now → map change_of r.changes.items ≡ frame.changes_of (frame.covered_answer params left c (V.store view.old))) }
 {
-    statements_are_framed();
+    sql_semantics::laws::statements_are_framed();
     match small_sql::run(alloc, bound, left, view) {
         Ok(answer) => told_as(alloc, answer),
         Err(_) => Err(AllocError),
@@ -86,11 +85,7 @@ fn taken_by(answer: &Answer) -> usize {
     let Answer::Rows(rows) = answer else {
         return 0;
     };
-    let mut taken = rows.len().saturating_mul(8);
-    for i in 0..rows.len() {
-        taken = taken.saturating_add(rows.row(i).bytes().len());
-    }
-    taken
+    rows.memory()
 }
 
 // What a statement's answer is told as. A count that no `u32` holds is told as want of memory: the

@@ -6,10 +6,6 @@ use Rattle.unit_locks.specs.Claims.{ClaimsOf, added, all_added, has}
 
 -- ---- what is added stands behind
 
--- one claim more, or none
-more_of : Bool → Claim → List Claim
-more_of b c = if b then [] else c ∷ []
-
 append_none : (cs : List Claim) → cs ++ [] ≡ cs
 append_none [] = refl
 append_none (c ∷ cs) = ap (λ (l : List Claim). c ∷ l) (append_none cs)
@@ -56,12 +52,5 @@ pub one_added : (unit : ℕ) (old now last : ClaimsOf) (done : List Claim) (d : 
     → ((other : ℕ) → other ≢ unit → last other ≡ now other) → IsAdding unit old last (done ++ d ∷ [])
 one_added unit old now last done d is more others = record {
   added = more ∙ ap (λ (l : List Claim). added l d) is.added ∙ sym (all_then (old unit) done d);
-  others = λ other ne. others other ne ∙ is.others other ne;
-}
-
-pub none_kept : (unit : ℕ) (old now last : ClaimsOf) (done : List Claim) → IsAdding unit old now done → last unit ≡ now unit
-    → ((other : ℕ) → other ≢ unit → last other ≡ now other) → IsAdding unit old last done
-none_kept unit old now last done is same others = record {
-  added = same ∙ is.added;
   others = λ other ne. others other ne ∙ is.others other ne;
 }

@@ -86,8 +86,8 @@ fn ask_of_word(
     }
 }
 
-// `new` begins with no unit; `turns` has so many units begin and end, `plain` looks at all, and `copy` counts what is copied of some owners';
-// all else is asked of an owner's.
+// `new` begins with no unit; `turns` has so many units begin and end, `plain` looks at all, and `copy` counts what is copied of some
+// owners'; all else is asked of an owner's.
 fn answer(
     alloc: Global,
     units: &mut Units,

@@ -27,8 +27,8 @@ fn tell_group(group: &Group<'_>, told: &mut String) -> Result<(), AllocError> {
     })
 }
 
-// Tells what stands in front of the bytes that are held, at most so many commands and one: commands, each with its DSSs, and a fault, with its code
-// and correlator. Says whether bytes may still come.
+// Tells what stands in front of the bytes that are held, at most so many commands and one: commands, each with its DSSs, and a fault, with
+// its code and correlator. Says whether bytes may still come.
 fn hear_held(segments: &mut Segments, most: usize, told: &mut String) -> Result<bool, AllocError> {
     for _ in 0..=most {
         match segments.next() {
@@ -94,8 +94,8 @@ fn pieces(number: usize, length: usize) -> (usize, usize) {
     }
 }
 
-/// Tells what is heard of a text command by command, if it is the same in any pieces: a short one in two, wherever it is cut, and in pieces of a byte to
-/// three.
+/// Tells what is heard of a text command by command, if it is the same in any pieces: a short one in two, wherever it is cut, and in pieces
+/// of a byte to three.
 pub fn tell_heard(alloc: Global, text: &[u8], told: &mut String) -> Result<(), AllocError> {
     let mut one = String::new(alloc);
     hear(alloc, text, None, &mut one)?;
@@ -110,7 +110,8 @@ pub fn tell_heard(alloc: Global, text: &[u8], told: &mut String) -> Result<(), A
     told.push_str(&one)
 }
 
-/// Tells how many bytes of a piece are taken, whether what stands in front then is a fault, and how many are taken of the piece again, command by command.
+/// Tells how many bytes of a piece are taken, whether what stands in front then is a fault, and how many are taken of the piece again,
+/// command by command.
 pub fn tell_fed(
     segments: &mut Segments,
     piece: &[u8],

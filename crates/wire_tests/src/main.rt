@@ -1,5 +1,5 @@
-//! Tests of ebcdic_500, ddm_objects and dss_frames: texts in code page 500, code points, objects, and streams however they are cut. What each
-//! line of standard input comes to goes to standard output, which is compared.
+//! Tests of ebcdic_500, ddm_objects and dss_frames: texts in code page 500, code points, objects, and streams however they are cut. What
+//! each line of standard input comes to goes to standard output, which is compared.
 #![tactic(auto)]
 
 mod asked;

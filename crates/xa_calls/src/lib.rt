@@ -4,6 +4,7 @@
 
 mod code;
 mod flags;
+pub mod laws;
 mod request;
 mod sync_type;
 mod xid;
@@ -13,5 +14,5 @@ pub use code::XaCode;
 pub use flags::Flags;
 pub use request::{Ending, InvalidRequest, Request, Verb};
 pub use sync_type::SyncType;
-pub use xid::{BadXid, Xid, one_reading};
+pub use xid::{BadXid, Xid};
 pub use xids::{MAX_IN_DOUBT, Xids};

@@ -28,10 +28,6 @@ use Rattle.xa_manager.specs.Counts.{weight}
 
 -- ---- what an edit at one XID leaves of the others
 
--- the state that the first branch shows, or the one of the rest
-abbrev first_or : Bool → BranchState → Option BranchState → Option BranchState
-first_or t s rest = cond t (Some s) rest
-
 pub other_with_branch : (bs : List Branch) (new : Branch) (x : List ℕ) → bytes_eq new.xid x ≡ false → state_of (with_branch bs new) x ≡ state_of bs x
 other_with_branch [] new x e = rw e refl
 other_with_branch (b ∷ bs) new x e =

@@ -6,16 +6,12 @@
 mod branch;
 mod counts;
 mod due;
-mod laws;
+pub mod laws;
 mod search;
 mod table;
 mod xids;
 
 pub use branch::{Branch, BranchState};
 pub use due::{Action, Decision, Due, Facts, MAX_BRANCHES, Work};
-pub use laws::{
-    actions_fit_states, heuristic_until_forgotten, joined_to_one, moves_one_branch,
-    prepared_until_decided, refusals_do_nothing, works_while_active,
-};
 pub use table::{RestoreError, XaTable};
 pub use xa_calls::MAX_IN_DOUBT;

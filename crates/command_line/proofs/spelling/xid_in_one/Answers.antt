@@ -1,5 +1,5 @@
 use Rattle.std.proofs.Common.{◌≡◌, subst, IfOk, Option, List, ℕ}
-use Rattle.command_line.proofs.Spelled.{no_colon, one_colon, one_word}
+use Rattle.command_line.proofs.Spelled.{one_word}
 use Rattle.command_line.proofs.spelling.xid_in_one.Goals as goal
 
 pub returns : goal.returns

@@ -6,13 +6,13 @@ use Rattle.conversation.proofs.exchange.tell.Goals as goal
 
 pub returns-in-Ok-clause-session : goal.returns-in-Ok-clause-session
 returns-in-Ok-clause-session c =
-    (sent_behind c.send_one-told.result c.args.link c.in-Ok.answer (answers.answered_at_once c.args.settings.now c.args.state.now.session c.args.what (given_of c.args.given)) c.args.out.now c.open_dss.new.out c.in_ok-dss.dss.at c.send_one-told.new.state.session c.answered_at_once.new.out.items c.send_one-told.new.out.items
-    c.in_ok-dss.ensures.opened c.in_ok-dss.ensures.ok c.in-Ok.ensures.ok c.send_one-told.ensures.session c.send_one-told.ensures.bytes).session_is
+    (sent_behind c.send_one.result c.args.link c.in-Ok.answer (answers.answered_at_once c.args.settings.now c.args.state.now.session c.args.what (given_of c.args.given)) c.args.out.now c.open_dss.new.out c.in_ok-dss.dss.at c.send_one.new.state.session c.answered_at_once.new.out.items c.send_one.new.out.items
+    c.in_ok-dss.ensures.opened c.in_ok-dss.ensures.ok c.in-Ok.ensures.ok c.send_one.ensures.session c.send_one.ensures.bytes).session_is
 
 pub returns-in-Ok-clause-bytes : goal.returns-in-Ok-clause-bytes
 returns-in-Ok-clause-bytes c =
-    (sent_behind c.send_one-told.result c.args.link c.in-Ok.answer (answers.answered_at_once c.args.settings.now c.args.state.now.session c.args.what (given_of c.args.given)) c.args.out.now c.open_dss.new.out c.in_ok-dss.dss.at c.send_one-told.new.state.session c.answered_at_once.new.out.items c.send_one-told.new.out.items
-    c.in_ok-dss.ensures.opened c.in_ok-dss.ensures.ok c.in-Ok.ensures.ok c.send_one-told.ensures.session c.send_one-told.ensures.bytes).bytes_are
+    (sent_behind c.send_one.result c.args.link c.in-Ok.answer (answers.answered_at_once c.args.settings.now c.args.state.now.session c.args.what (given_of c.args.given)) c.args.out.now c.open_dss.new.out c.in_ok-dss.dss.at c.send_one.new.state.session c.answered_at_once.new.out.items c.send_one.new.out.items
+    c.in_ok-dss.ensures.opened c.in_ok-dss.ensures.ok c.in-Ok.ensures.ok c.send_one.ensures.session c.send_one.ensures.bytes).bytes_are
 
 pub returns-in-Err-clause-err_out : goal.returns-in-Err-clause-err_out
 returns-in-Err-clause-err_out c =

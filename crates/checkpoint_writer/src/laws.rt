@@ -1,0 +1,3 @@
+//! Laws: what holds of all values, as a function that does nothing.
+
+pub use crate::reading::catalogues_are_read;

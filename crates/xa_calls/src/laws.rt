@@ -1,0 +1,3 @@
+//! Laws: what holds of all values, as a function that does nothing.
+
+pub use crate::xid::one_reading;
