@@ -11,12 +11,17 @@ use durable_core::DurableCore;
 use std::alloc::Global;
 use std::hint::spin_loop;
 use std::sync::{Mutex, MutexGuard, Wait};
+use std::thread::yield_now;
 use std::time::Clock;
 
-/// So often the lock is looked for before it is slept for: a turn at it is shorter than a sleep, but for those with a sync.
-const LOOKS: u32 = 40;
+/// So often the lock is looked for before it is slept for: a turn at it is far shorter than a sleep with the waking behind it, but for
+/// those with a slow sync or a checkpoint.
+const LOOKS: u32 = 200;
 
-/// So long is between two looks, in pauses of the processor.
+/// So many looks come one soon after another. Behind a later one the processor is left to others: whoever has the lock may want it.
+const SOON: u32 = 4;
+
+/// So long is between two looks that come soon, in pauses of the processor.
 const PAUSES: u32 = 10;
 
 /// A book under the one lock, to be shared by the threads of its conversations. Which book a call found under the
@@ -60,11 +65,11 @@ impl<D: Disk, B: Origin<D>> Shared<D, B> {
 
     /// The lock, for a call.
     pub(crate) fn take<R: Wait>(&self, rt: &R) -> MutexGuard<'_, Held<D, B>> {
-        for _ in 0..LOOKS {
+        for look in 0..LOOKS {
             if let Some(guard) = self.held.try_lock() {
                 return guard;
             }
-            pause();
+            pause(look);
         }
         self.held.lock(rt)
     }
@@ -117,8 +122,12 @@ impl<D: Disk, B: Origin<D>> Shared<D, B> {
     }
 }
 
-// Lets the processor rest between two looks.
-fn pause() {
+// What is done behind a look, by how many were before it.
+fn pause(look: u32) {
+    if look >= SOON {
+        yield_now();
+        return;
+    }
     for _ in 0..PAUSES {
         spin_loop();
     }
