@@ -118,7 +118,7 @@ fn run<A: Ask>(
     let unicode = state.session.agreed.unicode;
     write_database_name(settings, unicode, &mut state.database_name)?;
     state.replies.clear();
-    state
+    let section = state
         .cursors
         .admit(&accepted, &state.statements, &mut state.told)?;
     out.reserve(most_length(&accepted, &state.statements))?;
@@ -131,13 +131,14 @@ fn run<A: Ask>(
         asker,
         &mut state.replies,
     )?;
-    let severity = worst(state.replies.as_list());
-    state
-        .cursors
-        .note(alloc, &accepted, &state.statements, severity);
+    let replies = state.replies.as_list();
+    let severity = worst(replies);
     let session = behind(state.session, link, severity);
     let is_chained = link.is_chained && !session.is_broken;
-    append_replies(out, link.correlator, is_chained, state.replies.as_list());
+    append_replies(out, link.correlator, is_chained, replies);
+    state
+        .cursors
+        .note(alloc, section, &state.statements, severity);
     state.session = session;
     state.replies.clear();
     Ok(())

@@ -35,20 +35,22 @@ impl KeptCursors {
         }
     }
 
-    /// Lets a command be done. AllocError where it would open a cursor, and those that are open keep as much as they may already.
+    /// Lets a command be done, and tells the section whose cursor it would open, empty where it opens none. AllocError where those that
+    /// are open keep as much as they may already.
     #[inline(always)]
-    pub(crate) fn admit(
+    pub(crate) fn admit<'a>(
         &mut self,
-        accepted: &Accepted<'_>,
+        accepted: &Accepted<'a>,
         statements: &Statements,
         told: &mut Told,
-    ) -> Result<(), AllocError> {
+    ) -> Result<&'a [u8], AllocError> {
         match accepted.command {
             Command::Opnqry => {
                 told.is_due = true;
-                self.begin(statements)
+                self.begin(statements)?;
+                Ok(accepted.section().unwrap_or(&[]))
             }
-            _ => Ok(()),
+            _ => Ok(&[]),
         }
     }
 
@@ -64,18 +66,18 @@ impl KeptCursors {
         Ok(())
     }
 
-    /// The command was done, with replies of this severity: a cursor that it has opened, and that has rows left, is counted from now
-    /// on. Where none has, ENDQRYRM or a refusal says so, of a greater severity than 0.
+    /// The command was done, with replies of this severity: a cursor that it has opened for this section, and that has rows left, is
+    /// counted from now on. Where none has, ENDQRYRM or a refusal says so, of a greater severity than 0.
     #[inline(always)]
     pub(crate) fn note(
         &mut self,
         alloc: Global,
-        accepted: &Accepted<'_>,
+        section: &[u8],
         statements: &Statements,
         severity: u16,
     ) {
         if self.is_opening && severity == 0 {
-            self.note_opened(alloc, accepted.section().unwrap_or(&[]), statements);
+            self.note_opened(alloc, section, statements);
         }
     }
 
