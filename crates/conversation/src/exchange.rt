@@ -5,7 +5,6 @@ ghost use Rattle.dss_frames.specs.Group.{command_of};
 ghost use Rattle.dss_frames.specs.Writing.{written};
 ghost use Rattle.drda_commands.specs.Needs.{Needs};
 ghost use Rattle.drda_commands.specs.Views.{given_of};
-ghost use Rattle.drda_names.specs.Names.{padded_in};
 ghost use Rattle.command_kit.specs.Reply.{resource_limit};
 ghost use Rattle.session_commands.specs.Access as answers;
 ghost use Rattle.session_commands.specs.Views.{answer_of};
@@ -19,7 +18,6 @@ use crate::sizes::most_length;
 use crate::state::State;
 use command_kit::Ask;
 use drda_commands::{Accepted, Given, Refusal, Stage, judge};
-use drda_names::push_padded;
 use dss_frames::{Format, Group, OpenedDss, close_dss, open_dss};
 use session_commands::{Answer, AtOnce, Settings, answered_at_once, refused};
 use sqlam_replies::{ReplyKind, resource_limit};
@@ -85,19 +83,6 @@ fn send_one(
     Ok(())
 }
 
-// The database's name as it is answered, in place of what the text was.
-fn write_database_name(
-    settings: &Settings,
-    unicode: bool,
-    text: &mut Vec<u8>,
-) -> Result<(), AllocError>
-    ensures name { OnOk result (text.new.items ≡ padded_in unicode settings.now.rdb) }
-    ensures short { OnOk result (length text.new.items ≤ 791) }
-{
-    text.clear();
-    push_padded(text, unicode, settings.rdb())
-}
-
 // Does a command on the database and appends its replies. Out of memory nothing is asked, and nothing
 // appended. The memory that its replies take is there before anything is asked.
 #[inline(never)]
@@ -116,29 +101,28 @@ fn run<A: Ask>(
     ensures out { OnErr result (out.new.items ≡ out.old.items) }
 {
     let unicode = state.session.agreed.unicode;
-    write_database_name(settings, unicode, &mut state.database_name)?;
+    let database_name = settings.database_name(unicode);
     state.replies.clear();
-    let section = state
+    state
         .cursors
         .admit(&accepted, &state.statements, &mut state.told)?;
     out.reserve(most_length(&accepted, &state.statements))?;
     do_on_database(
         alloc,
         accepted,
-        &state.database_name,
+        database_name,
         unicode,
         &mut state.statements,
         asker,
         &mut state.replies,
     )?;
-    let replies = state.replies.as_list();
-    let severity = worst(replies);
-    let session = behind(state.session, link, severity);
-    let is_chained = link.is_chained && !session.is_broken;
-    append_replies(out, link.correlator, is_chained, replies);
+    let severity = worst(state.replies.as_list());
     state
         .cursors
-        .note(alloc, section, &state.statements, severity);
+        .note(alloc, &accepted, &state.statements, severity);
+    let session = behind(state.session, link, severity);
+    let is_chained = link.is_chained && !session.is_broken;
+    append_replies(out, link.correlator, is_chained, state.replies.as_list());
     state.session = session;
     state.replies.clear();
     Ok(())

@@ -208,7 +208,6 @@ fn fresh_state(alloc: Global, cursor_bytes: usize) -> State
     State {
         session: fresh_session(),
         statements: Statements::new(alloc),
-        database_name: Vec::new(alloc),
         replies: Replies::new(alloc),
         cursors: KeptCursors::new(alloc, cursor_bytes),
         told: Told::nothing(),

@@ -35,22 +35,20 @@ impl KeptCursors {
         }
     }
 
-    /// Lets a command be done, and tells the section whose cursor it would open, empty where it opens none. AllocError where those that
-    /// are open keep as much as they may already.
+    /// Lets a command be done. AllocError where it would open a cursor, and those that are open keep as much as they may already.
     #[inline(always)]
-    pub(crate) fn admit<'a>(
+    pub(crate) fn admit(
         &mut self,
-        accepted: &Accepted<'a>,
+        accepted: &Accepted<'_>,
         statements: &Statements,
         told: &mut Told,
-    ) -> Result<&'a [u8], AllocError> {
+    ) -> Result<(), AllocError> {
         match accepted.command {
             Command::Opnqry => {
                 told.is_due = true;
-                self.begin(statements)?;
-                Ok(accepted.section().unwrap_or(&[]))
+                self.begin(statements)
             }
-            _ => Ok(&[]),
+            _ => Ok(()),
         }
     }
 
@@ -66,18 +64,18 @@ impl KeptCursors {
         Ok(())
     }
 
-    /// The command was done, with replies of this severity: a cursor that it has opened for this section, and that has rows left, is
-    /// counted from now on. Where none has, ENDQRYRM or a refusal says so, of a greater severity than 0.
+    /// The command was done, with replies of this severity: a cursor that it has opened, and that has rows left, is counted from now
+    /// on. Where none has, ENDQRYRM or a refusal says so, of a greater severity than 0.
     #[inline(always)]
     pub(crate) fn note(
         &mut self,
         alloc: Global,
-        section: &[u8],
+        accepted: &Accepted<'_>,
         statements: &Statements,
         severity: u16,
     ) {
         if self.is_opening && severity == 0 {
-            self.note_opened(alloc, section, statements);
+            self.note_opened(alloc, accepted.section().unwrap_or(&[]), statements);
         }
     }
 

@@ -10,8 +10,6 @@ use session_commands::Session;
 pub(crate) struct State {
     pub session: Session,
     pub statements: Statements,
-    /// The database's name as it is answered.
-    pub database_name: Vec<u8>,
     pub replies: Replies,
     /// What its open cursors keep.
     pub cursors: KeptCursors,

@@ -1,5 +1,6 @@
 //! What a server is started with.
 
+use drda_names::push_padded;
 use std::alloc::{AllocError, Global};
 use std::marker::Model;
 use thiserror::Error;
@@ -29,16 +30,19 @@ impl From<AllocError> for SettingsError {
     }
 }
 
-/// The one user that may connect, that user's password, and the name of the database (RDB).
+/// The one user that may connect, that user's password, and the name of the database (RDB), also as it is answered.
 #[derive(Drop)]
 pub struct Settings {
     user: String,
     password: String,
     rdb: String,
+    in_utf_8: Vec<u8>,
+    in_code_page_500: Vec<u8>,
 }
 
 impl Model for Settings {
-    ghost use Rattle.std.specs.Prelude.{string_bytes, IsTrue};
+    ghost use Rattle.std.specs.Prelude.{◌≡◌, string_bytes, IsTrue, false, true};
+    ghost use Rattle.drda_names.specs.Names.{padded_in};
     ghost use Rattle.session_commands.specs.Settings as model;
     ghost use Rattle.session_commands.specs.Settings.{is_rdb_name};
 
@@ -46,7 +50,9 @@ impl Model for Settings {
 
     ghost view = { λ s. record { user = string_bytes s.user; password = string_bytes s.password; rdb = string_bytes s.rdb } };
 
-    ghost invariant = { λ s. IsTrue (is_rdb_name (string_bytes s.rdb)) };
+    ghost invariant = { λ s. IsTrue (is_rdb_name (string_bytes s.rdb))
+        × (s.in_utf_8.items ≡ padded_in true (string_bytes s.rdb))
+        × (s.in_code_page_500.items ≡ padded_in false (string_bytes s.rdb)) };
 }
 
 fn are_printable(bytes: &[u8]) -> bool
@@ -61,8 +67,18 @@ fn is_rdb_name(name: &str) -> bool
     1 <= name.len() && name.len() <= MAX_RDB_NAME_BYTES && are_printable(name.as_bytes())
 }
 
-ghost use Rattle.std.specs.Prelude.{◌≡◌, ◌≤◌, length};
+// A database's name as it is answered.
+fn padded(alloc: Global, unicode: bool, name: &[u8]) -> Result<Vec<u8>, AllocError>
+    ensures { IfOk result (λ v. v.items ≡ padded_in unicode name.now) }
+{
+    let mut answered = Vec::new(alloc);
+    push_padded(&mut answered, unicode, name)?;
+    Ok(answered)
+}
+
+ghost use Rattle.std.specs.Prelude.{◌≡◌, ◌≤◌, IfOk, length};
 ghost use Rattle.std.specs.List.{list_all};
+ghost use Rattle.drda_names.specs.Names.{padded_in};
 ghost use Rattle.session_commands.specs.Settings.{is_printable, is_rdb_name};
 
 impl Settings {
@@ -87,6 +103,8 @@ impl Settings {
             user: String::from_str(alloc, user)?,
             password: String::from_str(alloc, password)?,
             rdb: String::from_str(alloc, rdb)?,
+            in_utf_8: padded(alloc, true, rdb.as_bytes())?,
+            in_code_page_500: padded(alloc, false, rdb.as_bytes())?,
         })
     }
 
@@ -112,6 +130,19 @@ impl Settings {
         self.rdb.as_bytes()
     }
 
+    /// The database's name as it is answered: in UTF-8 with `unicode`, else in code page 500, with blanks behind it up
+    /// to 18 bytes.
+    pub fn database_name(&self, unicode: bool) -> &[u8]
+        ensures name { result.now ≡ padded_in unicode self.now.rdb }
+        ensures whole { length result.now ≡ 18 }
+    {
+        if unicode {
+            self.in_utf_8.as_slice()
+        } else {
+            self.in_code_page_500.as_slice()
+        }
+    }
+
     /// A copy, or AllocError where memory is refused.
     pub fn copy(&self, alloc: Global) -> Result<Settings, AllocError>
         ensures { IfOk result (λ s. s ≡ self.now) }
@@ -120,6 +151,8 @@ impl Settings {
             user: String::from_str(alloc, self.user.as_str())?,
             password: String::from_str(alloc, self.password.as_str())?,
             rdb: String::from_str(alloc, self.rdb.as_str())?,
+            in_utf_8: padded(alloc, true, self.rdb.as_bytes())?,
+            in_code_page_500: padded(alloc, false, self.rdb.as_bytes())?,
         })
     }
 }

@@ -21,6 +21,10 @@ const PIECE: usize = 65_536;
 /// Answers of more bytes are written before the next command is done.
 const LONG: usize = 65_536;
 
+/// Room for answers of more bytes is given back once they are written. A block of 65,535 bytes, the longest that clients ask for by
+/// themselves, has less: else each query would have new memory.
+const ROOM_KEPT: usize = 262_144;
+
 /// What is kept of a command that is not whole. Before a database is opened no command of use is longer than 64 KiB; then eight data
 /// objects of 1 MiB each and their request are the most.
 const KEPT: Budget = Budget {
@@ -191,12 +195,12 @@ fn show<H: Host>(access: Access, replies: &Vec<u8>, host: &mut H) {
     }
 }
 
-// Takes out what was written. Where that was long its memory is given back: a conversation that asked for much and
-// then says nothing holds no more than its buffers.
+// Takes out what was written. Where it had much room that is given back: a conversation that asked for much and then says
+// nothing holds no more than its buffers.
 fn empty(alloc: Global, replies: &mut Vec<u8>)
     ensures { replies.new.items ≡ [] }
 {
-    if replies.capacity() > LONG {
+    if replies.capacity() > ROOM_KEPT {
         *replies = Vec::new(alloc);
     } else {
         replies.clear();
