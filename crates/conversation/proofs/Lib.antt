@@ -1,4 +1,3 @@
-mod Names
 mod Sending
 mod Chains
 mod Asking
