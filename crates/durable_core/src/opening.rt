@@ -22,6 +22,9 @@ use rdb_core::Core;
 use row_pages::{PageCache, Pager};
 use std::alloc::{AllocError, Global};
 
+/// How many pages are kept while all of a half are checked, each once.
+const CHECKED_PAGES: usize = 64;
+
 /// Opens the store of a disk: the head, the tables of the last checkpoint on the pages of the active
 /// half, the records of the journal from its first on, and the branches in doubt with their claims.
 /// All pages are checked, and their rows stay on them; what the records say has changed since is in memory.
@@ -62,7 +65,7 @@ fn open_synced<D: Disk>(alloc: Global, disk: D) -> Result<DurableCore<D>, Refuse
     ensures stays { Stays (D.life disk) (D.life (disk_in result)) }
     ensures cause { CountsOpen result (D.life disk).faults (D.life (disk_in result)).faults }
 {
-    match PageCache::new(alloc, CACHED_PAGES) {
+    match PageCache::new(alloc, CHECKED_PAGES) {
         Ok(cache) => open_paged(alloc, Pager::over(disk, cache)),
         Err(AllocError) => Err(Refused {
             disk,
@@ -144,6 +147,29 @@ fn begin<D: Disk>(
     ensures err { IfErr result (λ refused. refused.error ≡ OpenError.NoMemory) }
     ensures disk { disk_in result ≡ pager }
 {
+    let disk = pager.into_disk();
+    match PageCache::new(alloc, CACHED_PAGES) {
+        Ok(cache) => begin_over(alloc, Pager::over(disk, cache), found),
+        Err(AllocError) => Err(Refused {
+            disk,
+            error: OpenError::NoMemory,
+        }),
+    }
+}
+
+// The same over a pager that keeps no page yet.
+fn begin_over<D: Disk>(
+    alloc: Global,
+    pager: Pager<D>,
+    found: Found,
+) -> Result<DurableCore<D>, Refused<D>>
+    requires { IsFound D.is_modelled (D.life pager) found }
+    ensures ok { IfOk result (IsOpenedTo (name_in found) (durable_in found)) }
+    ensures room { IfOk result (λ core. core.room ≡ room_of found.journal) }
+    ensures layout { IfOk result (λ core. core.layout ≡ found.layout) }
+    ensures err { IfErr result (λ refused. refused.error ≡ OpenError.NoMemory) }
+    ensures disk { disk_in result ≡ pager }
+{
     recovery::laws::openings_are_kept();
     let Found {
         name,
@@ -152,8 +178,6 @@ fn begin<D: Disk>(
         store,
         units,
     } = found;
-    let mut pager = pager;
-    pager.forget();
     let recorder = DiskRecorder::new(alloc, pager, journal, layout);
     let mut core = Core::restored(alloc, recorder, store);
     match restore_all(&mut core, units) {
