@@ -1,5 +1,5 @@
-"""The crates of crates.txt, which of them something since a commit can have touched, and where their edits stand: those that the
-gate tries under crates/NAME/must-fail/, the others beside them under crates/NAME/edits/."""
+"""The crates of crates.txt, which of them something since a commit can have touched, which a gate since then may leave out, and where
+their edits stand: those that the gate tries under crates/NAME/must-fail/, the others beside them under crates/NAME/edits/."""
 import os, re, subprocess
 
 from faces import changes, laws_in
@@ -9,6 +9,7 @@ TOP = os.path.realpath(os.path.join(os.path.dirname(__file__), ".."))
 WHOLE = "HANDLES", ".ci/logic"
 EDIT = re.compile(r"[A-Za-z0-9_-][A-Za-z0-9_.-]*\.edit")
 OF_GATE, OTHERS = "must-fail", "edits"
+PROGRAM = "drdad"
 
 
 def git(*words):
@@ -76,22 +77,62 @@ def above(names, crates):
     return found
 
 
+def files_since(base):
+    """The files that are not as they were at the commit; None where that says nothing of verdicts: HEAD does not stand on it, or what
+    each verdict rests on is another."""
+    if git("merge-base", "--is-ancestor", base, "HEAD") is None:
+        return None
+    if logic_of(subprocess.run(["rt", "version"], capture_output=True, text=True).stdout) != logic_of(git("show", f"{base}:.ci/logic") or ""):
+        return None
+    changed, others = git("diff", "--no-renames", "--name-only", base), git("ls-files", "--others", "--exclude-standard")
+    files = [file for file in [*(changed or "").split("\n"), *(others or "").split("\n")] if file]
+    return None if changed is None or others is None or any(file in WHOLE for file in files) else files
+
+
+def otherwise_listed(base, crates):
+    """The crates that stand on other libraries than at the commit."""
+    before = libraries(git("show", f"{base}:crates.txt") or "")
+    return {name for name in crates if sorted(crates[name]) != sorted(before.get(name, ["none"]))}
+
+
 def touched(base, kinds):
     """The crates whose edits something since the commit can concern: those whose code or statements changed, and those that stand on
     one whose face changed (faces.py); all of them where that can't be said. One of which an edit is changed counts too, where edits of
     that kind are asked for."""
-    crates = crates_now()
-    files = git("diff", "--no-renames", "--name-only", base, "HEAD") if git("merge-base", "--is-ancestor", base, "HEAD") is not None else None
-    if files is None or logic_of(subprocess.run(["rt", "version"], capture_output=True, text=True).stdout) != logic_of(git("show", f"{base}:.ci/logic") or ""):
+    crates, files = crates_now(), files_since(base)
+    if files is None:
         return set(crates)
-    files = files.split("\n")
-    if any(file in WHOLE for file in files):
-        return set(crates)
-    before = libraries(git("show", f"{base}:crates.txt") or "")
     changed, faces = changed_in(base, files)
-    others = {name for name in crates if sorted(crates[name]) != sorted(before.get(name, ["none"]))}
+    others = otherwise_listed(base, crates)
     edited = [edit_of(file) for file in files if edit_of(file) and os.path.exists(f"{TOP}/{file}")]
     return (changed | above(faces | others, crates) | {name for kind, name in edited if kind in kinds}) & set(crates)
+
+
+def below(names, crates):
+    """These crates, and those that they stand on."""
+    found, left = set(), list(names)
+    while left:
+        name = left.pop()
+        if name in crates and name not in found:
+            found.add(name)
+            left += crates[name]
+    return found
+
+
+def without(changed, crates):
+    """The crates that say nothing new where these changed: those that neither the program stands on, nor one that changed or that stands
+    on one that did."""
+    return set(crates) - below({PROGRAM} | above(changed, crates), crates)
+
+
+def left_out(base):
+    """The crates of tests and laws that a gate passed at the commit and that nothing since can touch: no file of theirs is another, nor
+    one of a crate below. Pages, and edits, which are tried by `touched`, count for nothing. None where that can't be said."""
+    crates, files = crates_now(), files_since(base)
+    if files is None:
+        return set()
+    parts = [file.split("/") for file in files if not file.endswith(".md") and not edit_of(file)]
+    return without({it[1] for it in parts if it[0] == "crates" and len(it) > 2} | otherwise_listed(base, crates), crates)
 
 
 def edits_in(folder):

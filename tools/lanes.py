@@ -39,9 +39,10 @@ def below_all(deps):
     return below
 
 
-def tasks(seconds, tried):
-    """Each task by crate and kind, with the edits of the crates that are tried: what it waits for, its lines, seconds and gigabytes."""
-    deps = crates_now()
+def tasks(seconds, tried, left=()):
+    """Each task by crate and kind, with the edits of the crates that are tried and without those of crates that are left out: what it
+    waits for, its lines, seconds and gigabytes."""
+    deps = {crate: libraries for crate, libraries in crates_now().items() if crate not in left}
     below = below_all(deps)
     code = {crate: lines(crate, ".rt") for crate in deps}
     proofs = {crate: lines(crate, ".antt") for crate in deps}

@@ -2,21 +2,10 @@
 they are: beside a program stands a stamp, the sum of all that went into it."""
 import contextlib, glob, hashlib, os, shutil, subprocess, sys
 
-from crates import TOP, crates_now
+from crates import PROGRAM, TOP, below, crates_now
 
 PROVED, UNPROVED = f"{TOP}/out/drdad", f"{TOP}/out/unproved/drdad"
 CODE, PROOFS = ("src",), ("src", "specs", "proofs")
-
-
-def below(name, crates):
-    """The crate and those of the repository that it stands on."""
-    found, left = set(), [name]
-    while left:
-        crate = left.pop()
-        if crate in crates and crate not in found:
-            found.add(crate)
-            left += crates[crate]
-    return sorted(found)
 
 
 def version():
@@ -30,7 +19,7 @@ def sum_of(folders):
     """A sum of the toolchain's version, of what stands on what, and of each file in these folders of the crates of drdad."""
     crates = crates_now()
     found = hashlib.sha256(version())
-    for crate in below("drdad", crates):
+    for crate in sorted(below({PROGRAM}, crates)):
         found.update(f"{crate}: {sorted(crates[crate])}\n".encode())
         for path in sorted(it for folder in folders for it in glob.glob(f"{TOP}/crates/{crate}/{folder}/**/*.*t*", recursive=True)):
             with open(path, "rb") as file:

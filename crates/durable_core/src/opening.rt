@@ -22,8 +22,8 @@ use rdb_core::Core;
 use row_pages::{PageCache, Pager};
 use std::alloc::{AllocError, Global};
 
-/// How many pages are kept while all of a half are checked, each once.
-const CHECKED_PAGES: usize = 64;
+/// How many pages of a store that is open are kept at most: 128 MiB.
+const KEPT_PAGES: usize = 16_384;
 
 /// Opens the store of a disk: the head, the tables of the last checkpoint on the pages of the active
 /// half, the records of the journal from its first on, and the branches in doubt with their claims.
@@ -65,7 +65,7 @@ fn open_synced<D: Disk>(alloc: Global, disk: D) -> Result<DurableCore<D>, Refuse
     ensures stays { Stays (D.life disk) (D.life (disk_in result)) }
     ensures cause { CountsOpen result (D.life disk).faults (D.life (disk_in result)).faults }
 {
-    match PageCache::new(alloc, CHECKED_PAGES) {
+    match PageCache::new(alloc, CACHED_PAGES) {
         Ok(cache) => open_paged(alloc, Pager::over(disk, cache)),
         Err(AllocError) => Err(Refused {
             disk,
@@ -148,7 +148,7 @@ fn begin<D: Disk>(
     ensures disk { disk_in result ≡ pager }
 {
     let disk = pager.into_disk();
-    match PageCache::new(alloc, CACHED_PAGES) {
+    match PageCache::new(alloc, KEPT_PAGES) {
         Ok(cache) => begin_over(alloc, Pager::over(disk, cache), found),
         Err(AllocError) => Err(Refused {
             disk,

@@ -10,8 +10,8 @@ use row_pages::PageFault;
 use std::alloc::Global;
 use table_map::JudgedRow;
 
-/// How many pages a recorder keeps at most: 128 MiB.
-pub const CACHED_PAGES: usize = 16_384;
+/// How many pages are kept where each is looked at once.
+pub const CACHED_PAGES: usize = 64;
 
 /// A key that was changed since the last checkpoint is looked up in memory; else one page is read for a
 /// row, at most, and each page of a table once for all its rows. `NoMemory` comes where memory is refused;

@@ -41,8 +41,8 @@ impl<D: Disk> DiskRecorder<D> {
     ghost use Rattle.journal_recorder.specs.Recording.{AreLeftOpen, Fails, Records, RecordsAll, disk_of, has_failed, journal_of, layout_of, made_of, staged_of};
     ghost use Rattle.unit_journal.specs.Staged.{IsAtRest};
 
-    /// Records in this journal of this disk, whose device has not failed, and which is lent with `CACHED_PAGES`
-    /// kept pages at most. The journal has this layout.
+    /// Records in this journal of this disk, whose device has not failed, and which is lent with the pages of it
+    /// that are kept. The journal has this layout.
     pub fn new(alloc: Global, pager: Pager<D>, journal: Journal, layout: Layout) -> DiskRecorder<D>
         ensures disk { disk_of result ≡ pager }
         ensures journal { journal_of result ≡ journal }
