@@ -22,8 +22,8 @@ use rdb_core::Core;
 use row_pages::{PageCache, Pager};
 use std::alloc::{AllocError, Global};
 
-/// How many pages of a store that is open are kept at most: 128 MiB.
-const KEPT_PAGES: usize = 16_384;
+/// How many pages of a store that is open are kept at most: 32 MiB.
+const KEPT_PAGES: usize = 4_096;
 
 /// Opens the store of a disk: the head, the tables of the last checkpoint on the pages of the active
 /// half, the records of the journal from its first on, and the branches in doubt with their claims.
