@@ -49,9 +49,9 @@ class Load:
         self.run("fill")
 
 
-def served(program, path):
-    """drdad over a fresh store of 1 GiB; it is served in the `with` that it stands in."""
-    server = Server(program, path, 1 << 30)
+def served(program, path, size=1 << 30):
+    """drdad over a fresh store of so many bytes; it is served in the `with` that it stands in."""
+    server = Server(program, path, size)
     server.made.check_returncode()
     return server
 
