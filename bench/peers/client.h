@@ -2,7 +2,7 @@
 #include <stddef.h>
 #include <stdint.h>
 
-enum { MOST = 64, KEPT_TIMES = 200000, ROOM = 1 << 17, VALUE = 92 };
+enum { MOST = 64, ROOM = 1 << 17, VALUE = 92 };
 
 typedef struct {
     int fd, id, failed, key, xa_code;
@@ -13,8 +13,9 @@ typedef struct {
     size_t taken, read;
     unsigned char sends[ROOM], reads[ROOM], comes[ROOM];
     char said[160];
-    double times[KEPT_TIMES];
-    long counted;
+    // The seconds of each exchange that counts, how many they are, and how many have a place.
+    double *times;
+    long counted, places;
 } Connection;
 
 // What is done over a connection. Each is 0 where it went well; else it has said why (`fail`).

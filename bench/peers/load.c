@@ -12,7 +12,8 @@
 //   branch:N       XA: an INSERT of a new row in a branch, prepared and then committed, which is the call N of SYNCCTL
 //   echo:N:M       N bytes, which are answered by M (bench/serve/echo.c); database, user and password count for nothing
 // Prints the exchanges a second, the microseconds of which 50, 99 and 99.9 of a hundred took no more, the bytes that the last one sent and
-// had back, and how many connections failed, the first of which is told on standard error.
+// had back, how many connections failed, the first of which is told on standard error, how many exchanges count, and the microseconds that
+// the longest of them took.
 #include "client.h"
 #include <arpa/inet.h>
 #include <netinet/tcp.h>
@@ -24,7 +25,7 @@
 #include <time.h>
 #include <unistd.h>
 
-enum { KEYS_OF_A_CONNECTION = 30000000, OWN_ROWS = 1000, SELECTS_OF_MIXED = 4 };
+enum { KEYS_OF_A_CONNECTION = 30000000, OWN_ROWS = 1000, SELECTS_OF_MIXED = 4, FIRST_PLACES = 200000 };
 
 const char *database, *user, *password, *table = "T";
 int rows = 100000, commit_call;
@@ -144,6 +145,18 @@ static void get_ready(Connection *it, int id) {
     while (*kinds && !protocol->prepare(it, *kinds)) kinds++;
 }
 
+// Keeps the time of an exchange. What grows here moves no bytes: the system lays its pages elsewhere.
+static int keep(Connection *it, double seconds) {
+    if (it->counted == it->places) {
+        it->places = it->places ? 2 * it->places : FIRST_PLACES;
+        double *times = realloc(it->times, it->places * sizeof *times);
+        if (!times) return fail(it, "no memory");
+        it->times = times;
+    }
+    it->times[it->counted++] = seconds;
+    return 0;
+}
+
 static void *run(void *given) {
     Connection *it = given;
     double last = now();
@@ -151,9 +164,7 @@ static void *run(void *given) {
         double began = last;
         if (one(it, at)) break;
         last = now();
-        if (began < from || last > until) continue;
-        if (it->counted < KEPT_TIMES) it->times[it->counted] = last - began;
-        it->counted++;
+        if (began >= from && last <= until && keep(it, last - began)) break;
     }
     return 0;
 }
@@ -165,21 +176,20 @@ static int by_size(const void *one, const void *other) {
 
 // What came of all connections, on one line.
 static int tell(Connection **all, int count, double seconds) {
-    long counted = 0, kept = 0, failed = 0;
-    double *times = malloc(sizeof *times * KEPT_TIMES * count);
+    long counted = 0, taken = 0, failed = 0;
+    for (int at = 0; at < count; at++) counted += all[at]->counted;
+    double *times = malloc(sizeof *times * (counted + 1));
     if (!times) return 2;
     for (int at = 0; at < count; at++) {
-        long some = all[at]->counted < KEPT_TIMES ? all[at]->counted : KEPT_TIMES;
-        memcpy(times + kept, all[at]->times, some * sizeof *times);
-        kept += some;
-        counted += all[at]->counted;
+        if (all[at]->counted) memcpy(times + taken, all[at]->times, all[at]->counted * sizeof *times);
+        taken += all[at]->counted;
         if (all[at]->failed && !failed++) fprintf(stderr, "connection %d: %s\n", at, all[at]->said);
     }
-    qsort(times, kept, sizeof *times, by_size);
+    qsort(times, counted, sizeof *times, by_size);
     printf("%.0f", counted / seconds);
     static const int slower[] = {2, 100, 1000};
-    for (int at = 0; at < 3; at++) printf(" %.0f", kept ? times[kept - 1 - kept / slower[at]] * 1e6 : 0);
-    printf(" %zu %zu %ld\n", all[0]->sent, all[0]->back, failed);
+    for (int at = 0; at < 3; at++) printf(" %.0f", counted ? times[counted - 1 - counted / slower[at]] * 1e6 : 0);
+    printf(" %zu %zu %ld %ld %.0f\n", all[0]->sent, all[0]->back, failed, counted, counted ? times[counted - 1] * 1e6 : 0);
     return failed > 0;
 }
 

@@ -12,7 +12,7 @@ OURS = "drdad"
 SOURCES = {"load": ("peers/load.c", "peers/drda.c", "peers/postgres.c"), "echo": ("serve/echo.c",), "slow.so": ("peers/slow.c",)}
 WAITS = 600
 
-Told = collections.namedtuple("Told", "rate median late latest sent back")
+Told = collections.namedtuple("Told", "rate median late latest sent back failed counted longest")
 
 
 def built(folder):
@@ -31,15 +31,16 @@ class Load:
     def __init__(self, program, port, database="-", user="-", password="-", commits=4):
         self.words, self.commits = [program, str(port), database, user, password], commits
 
-    def run(self, work, width=1, seconds=1, table="T"):
-        """What came of a load: exchanges a second, the microseconds that 50, 99 and 99.9 of a hundred took at most, and the bytes
-        that an exchange sends and has back. Ends the script where a connection failed."""
+    def run(self, work, width=1, seconds=1, table="T", rows=ROWS):
+        """What came of a load: exchanges a second, the microseconds that 50, 99 and 99.9 of a hundred took at most, the bytes that an
+        exchange sends and has back, how many connections failed, how many exchanges count, and the microseconds of the longest. Ends
+        the script where a connection failed."""
         work = f"branch:{self.commits}" if work == "branch" else work
-        words = [*self.words, work, str(width), str(seconds), table, str(ROWS)]
+        words = [*self.words, work, str(width), str(seconds), table, str(rows)]
         done = subprocess.run(words, capture_output=True, text=True, timeout=WAITS)
         if done.returncode:
             sys.exit(f"{work} over {width} connections: {done.stderr}")
-        return Told(*map(int, done.stdout.split()[:len(Told._fields)])) if done.stdout else None
+        return Told(*map(int, done.stdout.split())) if done.stdout else None
 
     def fill(self, *tables):
         """Makes the table T with its rows, and others without rows."""
@@ -48,9 +49,9 @@ class Load:
         self.run("fill")
 
 
-def served(program, path):
-    """drdad over a fresh store of 1 GiB; it is served in the `with` that it stands in."""
-    server = Server(program, path, 1 << 30)
+def served(program, path, size=1 << 30):
+    """drdad over a fresh store of so many bytes; it is served in the `with` that it stands in."""
+    server = Server(program, path, size)
     server.made.check_returncode()
     return server
 
