@@ -16,7 +16,8 @@ try: run
 build:
 	@tools/built_program
 
-# Every proof from nothing, every test, and the program. SINCE=COMMIT: with the edits of the crates that were touched since.
+# Every proof from nothing, every test, and the program. SINCE=COMMIT, whose gate passed: with the edits of the crates that were touched
+# since, and without the crates of tests that nothing since can touch.
 test:
 	@tools/tested tools/run_gate $(SINCE)
 
