@@ -18,7 +18,6 @@ use Rattle.recovery.specs.Journaled.{Journaled, shown_on}
 use Rattle.rdb_core.specs.Copied.{FailsOn, ReadsAlong, ReadsOn}
 use Rattle.durable_core.specs.Copying.{Copies, IsLooked, told as told_of}
 use Rattle.durable_core.specs.declared.plain_error.PlainError.{PlainError}
-use Rattle.durable_core.specs.declared.plain_error.PlainError.TheVariants as none
 use Rattle.durable_core.specs.Recorded.{IsRecorded, core_on}
 use Rattle.durable_core.proofs.Recording.{Laws, RestsOn, no_faults, only_read, read_journaled, read_recorded, rests, some_fault}
 

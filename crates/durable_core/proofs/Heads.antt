@@ -5,7 +5,6 @@ use Rattle.half_store.specs.Opened.{IsBehindPages}
 use Rattle.half_store.specs.declared.active.Active.{Active}
 use Rattle.half_store.specs.declared.layout.Half.{Half}
 use Rattle.half_store.specs.declared.layout.Half.TheVariants.{First, Second}
-use Rattle.half_store.specs.declared.errors.OpenError.{OpenError as HeadError}
 use Rattle.unit_journal.specs.Open.{IsWhole}
 use Rattle.unit_journal.specs.declared.errors.OpenError.{OpenError as JournalError}
 use Rattle.unit_journal.specs.declared.errors.OpenError.TheVariants.{Damaged}

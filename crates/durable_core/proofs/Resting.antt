@@ -1,12 +1,11 @@
 -- A checkpoint behind a rest, which gives up what was laid ahead, is one of the core from before it.
-use Rattle.std.proofs.Common.{◌≡◌, inl, inr, ℕ, ◌+◌, ◌<◌, Bool, true, false, IsTrue, List, [], ◌∷◌, length, map, Result, Ok, Err, refl, sym, ◌∙◌, ap, subst, arith}
+use Rattle.std.proofs.Common.{◌≡◌, inl, inr, ℕ, ◌+◌, ◌<◌, Bool, true, false, List, length, map, Result, refl, sym, ◌∙◌, ap, subst, arith}
 use Rattle.std.proofs.lemmas.Bool.{false≢true}
 use Rattle.drda_disk.specs.Disk.{Life, Stays}
 use Rattle.drda_disk.proofs.Moments.{Stays-trans}
 use Rattle.half_store.specs.Layout.{half_len}
 use Rattle.half_store.specs.declared.header.Layout.TheVariants.{Two}
 use Rattle.row_pages.specs.Laying.{counted}
-use Rattle.tables.specs.Tables.{Store as Tables}
 use Rattle.unit_journal.specs.Record.{Entry}
 use Rattle.unit_journal.specs.Staged.{IsAtRest}
 use Rattle.unit_records.specs.Records.{entry_of}
@@ -23,7 +22,7 @@ use Rattle.journal_recorder.specs.Recording.{disk_of, has_failed, staged_of}
 use Rattle.journal_recorder.specs.declared.checkpointing.CheckpointError.{CheckpointError}
 use Rattle.journal_recorder.specs.declared.recorder.DiskRecorder.{DiskRecorder}
 use Rattle.durable_core.specs.Ahead.{StaysAhead}
-use Rattle.durable_core.specs.Checkpointing.{Becomes, Checkpoints, IsSameCore, half_bytes_for, need_for, told_of}
+use Rattle.durable_core.specs.Checkpointing.{Becomes, Checkpoints, half_bytes_for, need_for, told_of}
 use Rattle.durable_core.specs.Recorded.{IsRecorded, core_on}
 use Rattle.durable_core.specs.declared.checkpointing.Checkpointed.{Checkpointed}
 use Rattle.durable_core.specs.declared.checkpointing.Checkpointed.TheVariants.{Closed, DeviceFailed, Done, Full, NoMemory}

@@ -1,7 +1,6 @@
 -- What is read of a store, or why it is not.
-use Rattle.std.specs.Prelude.{◌≡◌, ℕ, ◌+◌, ◌-◌, ◌*◌, ◌^◌, ◌<◌, ◌≤◌, List, length, Result, Ok, Err}
+use Rattle.std.specs.Prelude.{◌≡◌, ℕ, ◌+◌, ◌-◌, ◌*◌, ◌^◌, ◌≤◌, List, length, Result, Ok, Err}
 use Rattle.drda_disk.specs.Region.{end_of}
-use Rattle.drda_disk.specs.declared.region.Region.{Region}
 use Rattle.drda_disk.specs.Layout.{page_bytes}
 use Rattle.half_store.specs.Active.{active_of, not_a_store}
 use Rattle.half_store.specs.Layout.{half_len}
