@@ -3,7 +3,7 @@ use Rattle.std.specs.Prelude.{◌≡◌, ℕ, ◌^◌, ◌-◌, ◌*◌, ◌/◌
 use Rattle.xa_manager.specs.Branch.{in_doubt_xids}
 use Rattle.recovery.specs.Journaled.{OnDisk, Shown}
 use Rattle.durable_core.specs.Gauging.{IsGauge}
-use Rattle.durable_core.specs.declared.gauge.Gauge.{Gauge}
+use Rattle.turns.specs.declared.gauge.Gauge.{Gauge}
 use Rattle.core_history.specs.declared.filling.Filling.{Filling}
 
 -- a number, as far as one is counted up to

@@ -9,12 +9,13 @@ use crate::count::Count;
 use crate::listing::list;
 use crate::numbering::{free_places, is_out_of_numbers, knows};
 use crate::pass::Pass;
-use crate::renewals::{Lack, Renewals};
+use crate::renewals::Renewals;
 use core_calls::{Answer, CoreCall};
 use drda_disk::Disk;
 use durable_core::DurableCore;
 use std::alloc::Global;
 use std::snapshot::Snapshot;
+use turns::Lack;
 
 impl<D: Disk> Book<D> {
     ghost use Rattle.std.specs.Prelude.{◌≡◌, ◌<◌, ◌↔◌, IfErr, IfOk, IfSome, IsTrue, None, false, true};

@@ -30,5 +30,4 @@ pub use count::Count;
 pub use left::Left;
 pub use numbering::PLACES;
 pub use pass::Pass;
-pub use renewals::Lack;
 pub use wish::Wish;

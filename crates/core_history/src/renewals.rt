@@ -5,7 +5,8 @@ ghost use Rattle.core_history.specs.Fillings.{has_many};
 
 use crate::filling::Filling;
 use drda_disk::Disk;
-use durable_core::{Checkpointed, DurableCore, Gauge};
+use durable_core::{Checkpointed, DurableCore};
+use turns::{Gauge, Lack};
 
 /// So many bytes of records since the last checkpoint are let stand behind a group, however small the store is,
 const LET_STAND: usize = 16 << 20;
@@ -21,17 +22,6 @@ pub struct Renewals {
     pub(crate) laid: usize,
     pub(crate) last: Option<Filling>,
     pub(crate) lacks_half: bool,
-}
-
-/// What a record has no room in.
-#[derive(Clone, Copy, Debug, PartialEq, Eq)]
-pub enum Lack {
-    /// A journal behind a checkpoint: smaller units go through.
-    Unit,
-    /// The journal, until a checkpoint.
-    Journal,
-    /// The tables no longer fit in a half, so that no checkpoint can be written.
-    Half,
 }
 
 // Whether many bytes of records stand since the last checkpoint, which laid so many.

@@ -1,8 +1,8 @@
 //! Whether it was told that the store is full, and how full.
 
 use crate::notice::{Notice, Part};
-use shared_node::{Full, Gauge, Turn};
 use std::sync::atomic::{AtomicU64, Ordering};
+use turns::{Full, Gauge, Turn};
 
 /// That a part of the store is so full is told, in parts of a hundred.
 const LEVELS: [u64; 3] = [95, 90, 80];

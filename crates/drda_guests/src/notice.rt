@@ -1,9 +1,9 @@
 //! What a server tells of its conversations.
 
-use shared_node::{Gauge, Lack};
 use std::fmt;
 use std::net::SocketAddr;
 use stream_service::Served;
+use turns::{Gauge, Lack};
 
 /// The program's version, as its word `version` tells it.
 const VERSION: &str = "0.10";

@@ -6,9 +6,9 @@ use crate::fullness::Fullness;
 use crate::log::Log;
 use crate::longest::Longest;
 use crate::notice::{Notice, Part};
-use shared_node::{Gate, Turn};
 use std::net::OpenStream;
 use std::sync::Wait;
+use turns::{Gate, Turn};
 
 /// A gate whose turns are told.
 #[derive(Clone, Copy)]

@@ -9,7 +9,7 @@ use Rattle.journal_recorder.specs.declared.recorder.DiskRecorder.{DiskRecorder}
 use Rattle.recovery.specs.Journaled.{shown_on}
 use Rattle.durable_core.specs.Gauging.{IsGauge}
 use Rattle.durable_core.specs.Recorded.{IsRecorded, core_on}
-use Rattle.durable_core.specs.declared.gauge.Gauge.{Gauge}
+use Rattle.turns.specs.declared.gauge.Gauge.{Gauge}
 
 module _ {D : Type 0} (modelled : Bool) (life : D → Life) (name : List ℕ) where
   pub gauged : (s : CoreState) (r : DiskRecorder D) (g : Gauge) → IsRecorded modelled life name s r → IsTrue modelled → has_failed r ≡ false

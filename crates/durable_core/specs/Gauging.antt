@@ -8,7 +8,7 @@ use Rattle.recovery.specs.Laws.{held_for}
 use Rattle.recovery.specs.Journaled.{Shown}
 use Rattle.recovery.specs.Opens.{Holds}
 use Rattle.recovery.specs.Part.{durable_part}
-use Rattle.durable_core.specs.declared.gauge.Gauge.{Gauge}
+use Rattle.turns.specs.declared.gauge.Gauge.{Gauge}
 
 -- It is read off the active half: the bytes of its header and its pages, and those of its journal, which are all others of the half;
 -- of these, the bytes of the records that stand there, and those that are left for more.

@@ -10,6 +10,7 @@ ghost use Rattle.durable_core.specs.Gauging.{IsDue, IsGauge, is_due};
 use crate::durable::DurableCore;
 use drda_disk::{Disk, PAGE_BYTES};
 use journal_recorder::DiskRecorder;
+use turns::Gauge;
 
 /// A checkpoint is due where less than one part in so many of the journal is left for records,
 const PARTS_LEFT: usize = 4;
@@ -17,31 +18,13 @@ const PARTS_LEFT: usize = 4;
 /// or where the records since the last one take more than one part in so many of a half.
 const PARTS_RECORDED: usize = 8;
 
-/// How full a store is, in bytes of its active half, as its last checkpoint and the records since have left it. No page is read for it:
-/// so what the next checkpoint takes is not in it.
-#[derive(Clone, Copy, Debug, PartialEq, Eq)]
-pub struct Gauge {
-    /// What is left for records.
-    pub room: usize,
-    /// The records, of units in doubt and of all calls since the last checkpoint.
-    pub records: usize,
-    /// The whole journal.
-    pub journal: usize,
-    /// The header, the pages of the tables and those of their catalogue.
-    pub tables: usize,
-    /// The half, which is the journal and the tables.
-    pub half: usize,
-}
-
-impl Gauge {
-    /// Whether a checkpoint is worth its writes, where the last one laid so many bytes of records: less than a quarter of the journal
-    /// is left, or the records since take more than an eighth of the half.
-    pub fn is_due(&self, laid: usize) -> bool
-        ensures { result ≡ is_due self.now laid }
-    {
-        self.room < self.journal / PARTS_LEFT
-            || self.half / PARTS_RECORDED < self.records.saturating_sub(laid)
-    }
+// Whether a checkpoint is worth its writes, where the last one laid so many bytes of records: less than a quarter of the journal is
+// left, or the records since take more than an eighth of the half.
+fn is_due(gauge: Gauge, laid: usize) -> bool
+    ensures { result ≡ is_due gauge laid }
+{
+    gauge.room < gauge.journal / PARTS_LEFT
+        || gauge.half / PARTS_RECORDED < gauge.records.saturating_sub(laid)
 }
 
 // The bytes of a half of a disk of so many.
@@ -90,6 +73,6 @@ impl<D: Disk> DurableCore<D> {
         if self.core.recorder().is_failed() {
             return false;
         }
-        self.gauge().is_due(laid)
+        is_due(self.gauge(), laid)
     }
 }

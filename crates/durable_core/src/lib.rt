@@ -22,7 +22,6 @@ pub use checkpointing::Checkpointed;
 pub use deciding::Decided;
 pub use durable::DurableCore;
 pub use errors::{OpenError, Refused};
-pub use gauge::Gauge;
 pub use opening::open;
 pub use plain_error::PlainError;
 pub use together::Together;

@@ -5,7 +5,7 @@ use Rattle.recovery.specs.Journaled.{Journaled, OnDisk, shown_on}
 use Rattle.core_history.specs.declared.pass.Pass.{Pass}
 use Rattle.core_history.specs.Books.{IsKept, Told}
 use Rattle.core_history.specs.Passes.{Admits, HasNoLeave}
-use Rattle.shared_node.specs.declared.turn.Turn.{Turn}
+use Rattle.turns.specs.declared.turn.Turn.{Turn}
 use Rattle.shared_node.specs.Locked.{Considers, GivesLeave, GivesNone, LaysAhead, Retires, UnderLock}
 use Rattle.shared_node.proofs.Remaining.{retires}
 

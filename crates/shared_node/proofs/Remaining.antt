@@ -21,7 +21,7 @@ use Rattle.core_history.specs.Passes.{Lists, count_of}
 use Rattle.core_history.specs.Wishes.{answer_wished, listed_wish}
 use Rattle.core_history.proofs.Counting.{get_set}
 use Rattle.core_history.proofs.Leaving.{by_its, get_behind, get_in_front, length_by}
-use Rattle.shared_node.specs.declared.turn.Turn.{Turn}
+use Rattle.turns.specs.declared.turn.Turn.{Turn}
 use Rattle.shared_node.specs.Desks.{DeskAsks, ShowsNothing, answer_told}
 use Rattle.shared_node.specs.Locked.{Considers, GivesLeave, LaysAhead, Retires, UnderLock}
 use Rattle.shared_node.specs.Lasting.{AnswerLasts, AnswerStands, AnswersAreDurable, IsLater, IsListedAs, TurnsGoOn}

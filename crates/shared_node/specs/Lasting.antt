@@ -12,7 +12,7 @@ use Rattle.core_history.specs.declared.pass.Pass.{Pass}
 use Rattle.core_history.specs.Books.{IsKept, Told}
 use Rattle.core_history.specs.Lasting.{Lasts}
 use Rattle.core_history.specs.LeftAnswers.{calls_by}
-use Rattle.shared_node.specs.declared.turn.Turn.{Turn}
+use Rattle.turns.specs.declared.turn.Turn.{Turn}
 use Rattle.shared_node.specs.Desks.{DeskAsks, ShowsNothing}
 use Rattle.shared_node.specs.Locked.{Considers, GivesLeave, LaysAhead, Retires, UnderLock}
 use Rattle.shared_node.specs.Turns.{TakesTurn}

@@ -3,7 +3,7 @@ use Rattle.std.specs.Prelude.{◌≡◌, ◌↔◌, Bool, true, false, IfSome, I
 use Rattle.drda_disk.specs.Disk.{Life}
 use Rattle.recovery.specs.Journaled.{Journaled, OnDisk, shown_on}
 use Rattle.core_history.specs.declared.pass.Pass.{Pass}
-use Rattle.shared_node.specs.declared.turn.Turn.{Turn}
+use Rattle.turns.specs.declared.turn.Turn.{Turn}
 use Rattle.core_history.specs.Books.{IsKept, Told}
 use Rattle.core_history.specs.Passes.{Admits, HasNoLeave, Knows, Rests, retired}
 

@@ -1,11 +1,10 @@
 //! Who asks the book for one conversation.
 
-use crate::gate::Gate;
 use crate::hold::{Hold, end, lay_ahead};
 use crate::keeping::Share;
 use crate::origin::Origin;
 use crate::shared::Shared;
-use crate::turn::{Turn, time};
+use crate::turn::time;
 use command_kit::Ask;
 use core_calls::{Answer, CoreCall};
 use core_history::{Acted, Pass, has_run_behind, wished_by};
@@ -13,6 +12,7 @@ use drda_disk::Disk;
 use std::marker::Model;
 use std::sync::Wait;
 use std::time::Clock;
+use turns::{Gate, Turn};
 use unit_records::Asked;
 
 /// The lock is kept for the end of a unit that comes behind a query with so many rows at most, since their reply is written

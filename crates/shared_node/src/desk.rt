@@ -7,7 +7,6 @@ ghost use Rattle.shared_node.specs.Desks.{DeskAsks};
 ghost use Rattle.shared_node.specs.Served.{IsLost, IsServed};
 
 use crate::asker::Asker;
-use crate::gate::Gate;
 use crate::origin::Origin;
 use crate::shared::Shared;
 use conversation::{Front, Settings};
@@ -19,6 +18,7 @@ use std::io::{Read, Write};
 use std::sync::Wait;
 use std::time::Clock;
 use stream_service::{Host, Served, serve};
+use turns::Gate;
 
 /// One conversation's place at the book, for the calls of a pass. Nobody can ask there but the conversation that is served: call
 /// by call under the lock. Commits that wait, and phases of two-phase commit, are made together by the first of them, but for

@@ -1,7 +1,7 @@
 //! What lies under the lock.
 
 use crate::origin::Origin;
-use crate::turn::{Begun, Turn};
+use crate::turn::Begun;
 use crate::waiting::Waiting;
 use core_calls::CoreCall;
 use core_history::{Acted, Book, Pass, Wish};
@@ -9,6 +9,7 @@ use drda_disk::{Disk, Flushed, Flusher};
 use std::marker::{Model, PhantomData};
 use std::sync::Wait;
 use std::time::{Clock, Instant};
+use turns::Turn;
 use unit_records::Asked;
 
 /// What lies under the lock: the book, which was opened over a core of which this is known, and the wishes that the leader of a

@@ -5,11 +5,12 @@ ghost use Rattle.shared_node.specs.Locked.{LaysAhead, UnderLock};
 use crate::held::Held;
 use crate::origin::Origin;
 use crate::shared::Shared;
-use crate::turn::{Begun, Turn, full_of, time};
+use crate::turn::{Begun, full_of, time};
 use core_history::Acted;
 use drda_disk::{Disk, Flushed};
 use std::sync::{MutexGuard, Wait};
 use std::time::{Clock, Instant};
+use turns::Turn;
 
 /// The lock, which is held, and what its turn was like when it began.
 #[derive(Drop)]

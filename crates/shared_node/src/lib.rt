@@ -4,7 +4,6 @@
 mod asker;
 pub mod closing;
 mod desk;
-mod gate;
 mod held;
 mod hold;
 mod keeping;
@@ -15,10 +14,8 @@ mod shared;
 mod turn;
 mod waiting;
 
-pub use core_history::{Acted, Book, CallList, Count, Lack, Left, Pass, Wish};
+pub use core_history::{Acted, Book, CallList, Count, Left, Pass, Wish};
 pub use desk::{Desk, Ended};
-pub use durable_core::Gauge;
-pub use gate::{Gate, OpenGate};
 pub use origin::Origin;
 pub use shared::Shared;
-pub use turn::{Full, Turn};
+pub use turns::{Full, Gate, Gauge, Lack, OpenGate, Turn};

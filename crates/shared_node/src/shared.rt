@@ -3,7 +3,7 @@
 use crate::held::Held;
 use crate::keeping::Keeping;
 use crate::origin::Origin;
-use crate::turn::{Turn, time};
+use crate::turn::time;
 use crate::waiting::Waiting;
 use core_history::{Book, PLACES, Pass};
 use drda_disk::Disk;
@@ -13,6 +13,7 @@ use std::hint::spin_loop;
 use std::sync::{Mutex, MutexGuard, Wait};
 use std::thread::yield_now;
 use std::time::Clock;
+use turns::Turn;
 
 /// So often the lock is looked for before it is slept for: a turn at it is far shorter than a sleep with the waking behind it, but for
 /// those with a slow sync or a checkpoint.

@@ -1,7 +1,7 @@
 -- How much a store holds, as text: a word and its value on each line.
 use Rattle.std.specs.Prelude.{ℕ, List, [], ◌∷◌, ◌++◌, codes}
 use Rattle.std.specs.Fmt.{decimal}
-use Rattle.durable_core.specs.declared.gauge.Gauge.{Gauge}
+use Rattle.turns.specs.declared.gauge.Gauge.{Gauge}
 
 -- the bytes of the store; those that are left for records, of all of its journal
 abbrev pub journal_lines : ℕ → ℕ → ℕ → List ℕ

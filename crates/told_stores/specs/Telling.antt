@@ -4,7 +4,7 @@ use Rattle.std.specs.Io.KnownBytes.{Appends}
 use Rattle.drda_disk.specs.Disk.{Life}
 use Rattle.recovery.specs.Durable.{Durable}
 use Rattle.durable_core.specs.Gauging.{IsGauge}
-use Rattle.durable_core.specs.declared.gauge.Gauge.{Gauge}
+use Rattle.turns.specs.declared.gauge.Gauge.{Gauge}
 use Rattle.recovery.specs.Journaled.{OnDisk, shown_on}
 use Rattle.recovery.specs.Opens.{OpensTo}
 use Rattle.store_files.specs.Files.{FileCalls}

@@ -6,10 +6,11 @@ ghost use Rattle.xa_manager.specs.Branch.{in_doubt_xids};
 ghost use Rattle.told_stores.specs.Rooms.{journal_lines, room_text, table_lines};
 
 use drda_disk::Disk;
-use durable_core::{DurableCore, Gauge};
+use durable_core::DurableCore;
 use rdb_core::InDoubt;
 use std::alloc::{AllocError, Global};
 use std::fmt::Write;
+use turns::Gauge;
 use xa_calls::Xid;
 
 /// A line each: the name of a store, its size in bytes, how many are left for records of all of its journal, how many its tables take of
