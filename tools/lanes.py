@@ -39,16 +39,16 @@ def below_all(deps):
     return below
 
 
-def tasks(seconds, tried, left=()):
+def tasks(seconds, tried, left=(), kept=()):
     """Each task by crate and kind, with the edits of the crates that are tried and without those of crates that are left out: what it
-    waits for, its lines, seconds and gigabytes."""
+    waits for, its lines, seconds and gigabytes. What a machine has kept takes no time."""
     deps = {crate: libraries for crate, libraries in crates_now().items() if crate not in left}
     below = below_all(deps)
     code = {crate: lines(crate, ".rt") for crate in deps}
     proofs = {crate: lines(crate, ".antt") for crate in deps}
     made = {}
     for crate in sorted(deps, key=lambda it: len(below[it])):
-        proof, tests, edit = seconds.get(crate, [20 + code[crate] / 6, 0, 15])
+        proof, tests, edit = (0, 0, 0) if crate in kept else seconds.get(crate, [20 + code[crate] / 6, 0, 15])
         edits = len(edits_in(f"{TOP}/crates/{crate}/must-fail")[0]) if crate in tried else 0
         size = 1 + code[crate] / 1000 + proofs[crate] / 5000 + sum(code[it] for it in below[crate]) * 8e-5
         waits = [(it, PROOF) for it in below[crate]]

@@ -9,7 +9,7 @@ use turns::{Gauge, Lack};
 const VERSION: &str = "0.10";
 
 /// What a server tells of its conversations, a line each. Times are in microseconds, 0 where the clock can't be read.
-#[derive(Clone, Copy, Debug, PartialEq, Eq)]
+#[derive(Clone, Copy)]
 pub enum Notice {
     /// A conversation begins, of a stream of this peer. Its number is given once.
     Begins {
@@ -93,7 +93,7 @@ pub enum Part {
 }
 
 /// The name of a database, of 18 bytes at most.
-#[derive(Clone, Copy, Debug, PartialEq, Eq)]
+#[derive(Clone, Copy)]
 pub struct Name {
     bytes: [u8; 18],
     length: usize,
@@ -122,7 +122,7 @@ impl fmt::Display for Name {
 }
 
 /// How a conversation has ended.
-#[derive(Clone, Copy, Debug, PartialEq, Eq)]
+#[derive(Clone, Copy)]
 pub struct Outcome {
     /// What ended it.
     pub served: Served,
