@@ -11,6 +11,7 @@ use std::sync::Wait;
 use turns::{Gate, Turn};
 
 /// A gate whose turns are told.
+#[derive(Clone, Copy)]
 pub struct TellingGate<'a, R, G, L, K> {
     pub rt: &'a R,
     pub gate: &'a G,
