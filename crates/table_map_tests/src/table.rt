@@ -36,11 +36,6 @@ pub struct Table {
     calls: u64,
 }
 
-fn push_line(out: &mut Vec<u8>, line: &str) -> Option<()> {
-    out.extend_from_slice(line.as_bytes()).ok()?;
-    out.push(b'\n').ok()
-}
-
 impl Table {
     /// A narrow table without pages. None without memory.
     pub fn new(alloc: Global) -> Option<Table> {
@@ -53,14 +48,10 @@ impl Table {
         })
     }
 
-    /// Writes a line down, and does what it asks for, or tells what it comes to: `narrow` and `wide` begin a table, `page` lays a page of
-    /// rows, which commas part, and `bytes` one of these bytes; `fuse` lets so many calls through. All else asks for rows. None without
-    /// memory.
-    pub fn answer(&mut self, line: &str, out: &mut Vec<u8>) -> Option<()> {
-        push_line(out, line)?;
-        let (verb, rest) = line.split_once(' ').unwrap_or((line, ""));
+    /// Does what a line asks for, or tells what it comes to: `narrow` and `wide` begin a table, `page` lays a page of rows, which commas part,
+    /// and `bytes` one of these bytes; `fuse` lets so many calls through. All else asks for rows. None without memory.
+    pub fn answer(&mut self, line: &str, verb: &str, rest: &str, out: &mut Vec<u8>) -> Option<()> {
         match verb {
-            "" | "#" => Some(()),
             "narrow" => self.begin(&NARROW),
             "wide" => self.begin(&WIDE),
             "page" => self.lay_rows(rest),
@@ -106,8 +97,8 @@ impl Table {
     }
 
     fn tell(&self, line: &str, out: &mut Vec<u8>) -> Option<()> {
-        let copy = self.disk.copy(self.alloc).ok()?;
         let cache = PageCache::new(self.alloc, 2).ok()?;
+        let copy = self.disk.copy(self.alloc).ok()?;
         let mut pager = Pager::over(FuseDisk::new(copy, self.calls, false), cache);
         tell_asked(self.alloc, &self.schema, &mut pager, self.pages, line, out)
     }

@@ -43,16 +43,16 @@ pub fn tell_judged(bytes: &[u8], out: &mut String) -> Result<(), AllocError> {
     writeln!(out, "  {kind:?}, {count} of {length} bytes")
 }
 
-/// Tells how many rows of these lengths were added to a page, how many bytes it has, and what page these are.
-pub fn tell_page(alloc: Global, lengths: &str, out: &mut String) -> Result<(), AllocError> {
+// Tells how many rows of these lengths were added to a page, how many bytes it has, and what page these are.
+fn tell_page(alloc: Global, lengths: &str, out: &mut String) -> Result<(), AllocError> {
     let (bytes, added) = filled(alloc, PageKind::Rows, lengths)?;
     let size = bytes.len();
     writeln!(out, "  {added} added, {size} bytes")?;
     tell_judged(&bytes, out)
 }
 
-/// Tells the bytes of a catalogue's page with rows of these lengths that are not zero, each with its place, and what page all of them are.
-pub fn tell_bytes(alloc: Global, lengths: &str, out: &mut String) -> Result<(), AllocError> {
+// Tells the bytes of a catalogue's page with rows of these lengths that are not zero, each with its place, and what page all of them are.
+fn tell_bytes(alloc: Global, lengths: &str, out: &mut String) -> Result<(), AllocError> {
     let (bytes, _) = filled(alloc, PageKind::Catalogue, lengths)?;
     for (place, byte) in bytes.iter().enumerate() {
         if *byte != 0 {
@@ -62,9 +62,9 @@ pub fn tell_bytes(alloc: Global, lengths: &str, out: &mut String) -> Result<(), 
     tell_judged(&bytes, out)
 }
 
-/// Tells what page the bytes of a page of two rows, of 1 and 2 bytes, are where one of them, at a place, is another; or the first ones of
-/// them, so many.
-pub fn tell_changed(alloc: Global, asked: &str, out: &mut String) -> Result<(), AllocError> {
+// Tells what page the bytes of a page of two rows, of 1 and 2 bytes, are where one of them, at a place, is another; or the first ones of
+// them, so many.
+fn tell_changed(alloc: Global, asked: &str, out: &mut String) -> Result<(), AllocError> {
     let (mut bytes, _) = filled(alloc, PageKind::Rows, "1 2")?;
     match asked.split_once(' ') {
         Some((at, byte)) => {
@@ -96,8 +96,8 @@ fn lay_row(
     }
 }
 
-/// Tells what page each one is into which rows of these lengths are laid, and how many pages were counted for them.
-pub fn tell_laid(alloc: Global, lengths: &str, out: &mut String) -> Result<(), AllocError> {
+// Tells what page each one is into which rows of these lengths are laid, and how many pages were counted for them.
+fn tell_laid(alloc: Global, lengths: &str, out: &mut String) -> Result<(), AllocError> {
     let mut page = PageBuilder::new(alloc, PageKind::Rows)?;
     let mut count = PageCount::new();
     for word in lengths.split_ascii_whitespace() {
@@ -106,4 +106,20 @@ pub fn tell_laid(alloc: Global, lengths: &str, out: &mut String) -> Result<(), A
     let counted = count.pages();
     tell_judged(&page.finish(), out)?;
     writeln!(out, "  {counted} counted")
+}
+
+/// Tells what comes of rows of these lengths: a page is filled with them, or shown byte by byte, or laid with others behind it; or of a page
+/// whose bytes are changed.
+pub fn answer_of_page(
+    alloc: Global,
+    verb: &str,
+    rest: &str,
+    out: &mut String,
+) -> Result<(), AllocError> {
+    match verb {
+        "fill" => tell_page(alloc, rest, out),
+        "shown" => tell_bytes(alloc, rest, out),
+        "changed" => tell_changed(alloc, rest, out),
+        _ => tell_laid(alloc, rest, out),
+    }
 }
