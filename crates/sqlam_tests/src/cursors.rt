@@ -1,0 +1,123 @@
+//! What is asked of a section.
+
+use crate::rows::rows_of;
+use sections::{NotPrepared, OpenFault, QueryNotOpen, Sections};
+use sql_text::{Command, parse};
+use std::alloc::{AllocError, Global};
+
+/// The shortest name: 64 bytes, of which the first two are a number.
+pub fn name_of(number: u16) -> [u8; 64] {
+    let mut name = [0x20; 64];
+    let [high, low] = number.to_be_bytes();
+    name[0] = high;
+    name[1] = low;
+    name
+}
+
+fn said_opening(opening: Result<(), OpenFault>) -> &'static str {
+    match opening {
+        Ok(()) => "may be opened",
+        Err(OpenFault::NotPrepared) => "not prepared",
+        Err(OpenFault::QueryOpen) => "open already",
+        Err(OpenFault::NoInstance) => "no instance",
+    }
+}
+
+// Opens a cursor in blocks of a size over rows of these lengths.
+fn open(
+    alloc: Global,
+    sections: &mut Sections,
+    name: &[u8],
+    rest: &str,
+    told: &mut String,
+) -> Result<(), AllocError> {
+    let (size, lengths) = rest.split_once(' ').unwrap_or((rest, ""));
+    let Some(rows) = rows_of(alloc, lengths) else {
+        return told.push_str("no rows");
+    };
+    match sections.open_cursor(name, rows, size.parse::<u32>().unwrap_or(0)) {
+        Ok(instance) => write!(told, "cursor {instance}"),
+        Err(fault) => told.push_str(said_opening(Err(fault))),
+    }
+}
+
+// The next block of the cursor of an instance, in a size. A number may be left out by -.
+fn tell_block(
+    sections: &mut Sections,
+    name: &[u8],
+    rest: &str,
+    is_sent: bool,
+    told: &mut String,
+) -> Result<(), AllocError> {
+    let (instance, size) = rest.split_once(' ').unwrap_or((rest, ""));
+    let (instance, size) = (instance.parse::<u64>().ok(), size.parse::<u32>().ok());
+    let (start, count, size, is_last) = match sections.next_block(name, instance, size) {
+        Ok(block) => (block.start, block.count, block.size, block.is_last),
+        Err(QueryNotOpen) => return told.push_str("no cursor"),
+    };
+    if is_sent {
+        sections.advance(name, count, size);
+    }
+    let last = if is_last { ", the last" } else { "" };
+    write!(told, "{count} from {start} in {size}{last}")
+}
+
+fn said_closed(sections: &mut Sections, name: &[u8], instance: &str) -> &'static str {
+    match sections.close(name, instance.parse::<u64>().ok()) {
+        Ok(()) => "closed",
+        Err(QueryNotOpen) => "no cursor",
+    }
+}
+
+fn said_statement(sections: &Sections, name: &[u8]) -> &'static str {
+    match sections.statement(name) {
+        Ok(statement) => match statement.command {
+            Command::Select { .. } => "a SELECT",
+            Command::Insert { .. } => "an INSERT",
+            _ => "another statement",
+        },
+        Err(NotPrepared) => "not prepared",
+    }
+}
+
+// Prepares the statement that a text is, or makes room for it.
+fn prepare(
+    alloc: Global,
+    sections: &mut Sections,
+    verb: &str,
+    name: &[u8],
+    text: &str,
+) -> Result<(), AllocError> {
+    match parse(alloc, text) {
+        Ok(statement) => {
+            let done = match verb {
+                "reserve" => sections.reserve_prepare(name, &statement, false),
+                _ => sections.prepare(name, &statement, verb == "hold"),
+            };
+            drop(statement);
+            done
+        }
+        Err(_) => Err(AllocError),
+    }
+}
+
+/// Tells what is answered of the section of a name.
+pub fn answer_of_section(
+    alloc: Global,
+    sections: &mut Sections,
+    verb: &str,
+    name: &[u8],
+    rest: &str,
+    told: &mut String,
+) -> Result<(), AllocError> {
+    match verb {
+        "open" => return open(alloc, sections, name, rest, told),
+        "look" | "fetch" => return tell_block(sections, name, rest, verb == "fetch", told),
+        "prepare" | "hold" | "reserve" => prepare(alloc, sections, verb, name, rest)?,
+        "check" => return told.push_str(said_opening(sections.check_opening(name))),
+        "close" => return told.push_str(said_closed(sections, name, rest)),
+        "statement" => return told.push_str(said_statement(sections, name)),
+        _ => return told.push_str("nothing is asked"),
+    }
+    told.push_str("done")
+}
