@@ -141,32 +141,44 @@ impl Bench {
         Ok(Some(written(self.replies.as_list()) <= room))
     }
 
+    fn do_sql(&mut self, accepted: Accepted<'_>) -> Result<(), AllocError> {
+        sql_commands::do_command(
+            self.alloc,
+            accepted,
+            RDB,
+            false,
+            &mut self.statements,
+            &mut self.asker,
+            &mut self.replies,
+        )
+    }
+
+    fn do_immediate(&mut self, accepted: Accepted<'_>) -> Result<(), AllocError> {
+        execute_immediate(
+            self.alloc,
+            accepted,
+            RDB,
+            &mut self.statements,
+            &mut self.asker,
+            &mut self.replies,
+        )
+    }
+
+    fn do_sync(&mut self, accepted: Accepted<'_>) -> Result<(), AllocError> {
+        do_sync_control(
+            accepted,
+            &mut self.statements,
+            &mut self.asker,
+            &mut self.replies,
+        )
+    }
+
     /// Does a command that is accepted: an SQL command, EXCSQLIMM alone, or a SYNCCTL.
     pub fn do_accepted(&mut self, verb: &str, accepted: Accepted<'_>) -> Result<(), AllocError> {
         match verb {
-            "sql" => sql_commands::do_command(
-                self.alloc,
-                accepted,
-                RDB,
-                false,
-                &mut self.statements,
-                &mut self.asker,
-                &mut self.replies,
-            ),
-            "immediate" => execute_immediate(
-                self.alloc,
-                accepted,
-                RDB,
-                &mut self.statements,
-                &mut self.asker,
-                &mut self.replies,
-            ),
-            _ => do_sync_control(
-                accepted,
-                &mut self.statements,
-                &mut self.asker,
-                &mut self.replies,
-            ),
+            "sql" => self.do_sql(accepted),
+            "immediate" => self.do_immediate(accepted),
+            _ => self.do_sync(accepted),
         }
     }
 

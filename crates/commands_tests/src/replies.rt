@@ -58,28 +58,33 @@ pub fn tell_replies(replies: ReplyList<'_>, told: &mut String) -> Result<(), All
     Ok(())
 }
 
+fn add_card(replies: &mut Replies, card: Card) -> Result<(), AllocError> {
+    replies.reserve(1, SQLCARD_LENGTH)?;
+    replies.add(&card);
+    Ok(())
+}
+
+fn add_update(replies: &mut Replies) -> Result<(), AllocError> {
+    replies.reserve(1, 300_000)?;
+    replies.add(&ReplyMessage::RdbUpdated(b"DRDADB"));
+    Ok(())
+}
+
+fn add_limit_and_null(replies: &mut Replies) -> Result<(), AllocError> {
+    replies.reserve(2, MAX_MESSAGE_LENGTH + SQLCARD_LENGTH)?;
+    replies.add(&ReplyMessage::ResourceLimit);
+    replies.add(&Card::Null);
+    Ok(())
+}
+
 /// Adds what a verb names: SQLCODE -104, a null SQLCARD, RDBUPDRM, or RSCLMTRM and a null SQLCARD.
 pub fn add(replies: &mut Replies, verb: &str) -> Result<(), AllocError> {
     match verb {
-        "add-fault" => {
-            replies.reserve(1, SQLCARD_LENGTH)?;
-            replies.add(&Card::Fault(SqlFault::Syntax));
-        }
-        "add-null" => {
-            replies.reserve(1, SQLCARD_LENGTH)?;
-            replies.add(&Card::Null);
-        }
-        "add-update" => {
-            replies.reserve(1, 300_000)?;
-            replies.add(&ReplyMessage::RdbUpdated(b"DRDADB"));
-        }
-        _ => {
-            replies.reserve(2, MAX_MESSAGE_LENGTH + SQLCARD_LENGTH)?;
-            replies.add(&ReplyMessage::ResourceLimit);
-            replies.add(&Card::Null);
-        }
+        "add-fault" => add_card(replies, Card::Fault(SqlFault::Syntax)),
+        "add-null" => add_card(replies, Card::Null),
+        "add-update" => add_update(replies),
+        _ => add_limit_and_null(replies),
     }
-    Ok(())
 }
 
 /// Tells whether room for too many bytes and for too many replies is refused.

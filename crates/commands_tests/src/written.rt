@@ -21,18 +21,23 @@ fn put_items(alloc: Global, out: &mut Vec<u8>, words: &str) -> Result<(), AllocE
     Ok(())
 }
 
-// A request DSS: the code point's object, in which the items stand.
+// A code point, and the items that stand in its object.
+fn object_of(alloc: Global, text: &str) -> Result<Vec<u8>, AllocError> {
+    let (code, items) = text.split_once(' ').unwrap_or((text, ""));
+    let mut object = bytes_of(alloc, &[code])?;
+    put_items(alloc, &mut object, items)?;
+    Ok(object)
+}
+
+// A request DSS.
 fn write_request(
     alloc: Global,
     out: &mut Vec<u8>,
     format: u8,
     text: &str,
 ) -> Result<(), AllocError> {
-    let (code, items) = text.split_once(' ').unwrap_or((text, ""));
-    let mut object = bytes_of(alloc, &[code])?;
-    put_items(alloc, &mut object, items)?;
     let mut request = Vec::new(alloc);
-    put_object(&mut request, &object)?;
+    put_object(&mut request, &object_of(alloc, text)?)?;
     write_dss(out, Format { byte: format }, 1, &request)
 }
 

@@ -6,5 +6,5 @@ mod schemas;
 mod shown;
 
 pub use cells::{Cell, cells_of, values_of};
-pub use schemas::{columns_of, schema_of};
+pub use schemas::schema_of;
 pub use shown::{push_shown, say, tell};

@@ -2,35 +2,15 @@
 
 use std::alloc::Global;
 
-fn digit(number: u8) -> u8 {
-    if number < 10 {
-        number + b'0'
-    } else {
-        (number & 15).wrapping_add(b'A' - 10)
-    }
-}
-
-fn push_pair(out: &mut Vec<u8>, byte: u8) -> Option<()> {
-    out.extend_from_slice(&[digit(byte >> 4), digit(byte & 15)])
-        .ok()
-}
-
-fn push_count(alloc: Global, out: &mut Vec<u8>, count: usize) -> Option<()> {
-    let text = format!(in alloc; "*{count} ").ok()?;
-    out.extend_from_slice(text.as_bytes()).ok()
-}
-
 // One byte that stands so many times.
 fn push_run(alloc: Global, out: &mut Vec<u8>, byte: u8, count: usize) -> Option<()> {
-    if count == 0 {
-        return Some(());
-    }
-    push_pair(out, byte)?;
-    match count {
-        1 => Some(()),
-        2 => push_pair(out, byte),
-        _ => push_count(alloc, out, count),
-    }
+    let text = match count {
+        0 => return Some(()),
+        1 => format!(in alloc; "{byte:02X}").ok()?,
+        2 => format!(in alloc; "{byte:02X}{byte:02X}").ok()?,
+        _ => format!(in alloc; "{byte:02X}*{count} ").ok()?,
+    };
+    out.extend_from_slice(text.as_bytes()).ok()
 }
 
 /// Appends pairs of digits, with *N behind one that stands N times, where that is three times or more.
