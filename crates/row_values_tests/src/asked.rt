@@ -1,156 +1,110 @@
 //! What is asked, a line each.
 
 use crate::changes::{tell_change, tell_damage, tell_parts_of_change};
-use crate::keys::{tell_key, tell_order, tell_parts};
-use crate::lists::{tell_list, tell_pushes};
-use crate::rows::{key_of, tell_bytes_of_row, tell_values};
+use crate::rows::{
+    key_of, tell_admitted, tell_bytes, tell_key, tell_order, tell_parts, tell_values,
+};
 use crate::schemas::{tell_read, tell_schema};
-use crate::told::say;
-use crate::views::answer_of_view;
+use crate::views::{Views, tell_list, tell_pushes};
 use row_values::Schema;
-use std::alloc::{AllocError, Global};
-use tables::PlainView;
-use test_bytes::bytes_of;
+use std::alloc::Global;
 use test_rows::schema_of;
 
-/// The schema that was told last, keys of it, and the tables.
+/// The schema that was told last, keys of it, the tables, and what became of the lines so far.
 #[derive(Drop)]
-pub struct Bench {
-    pub alloc: Global,
-    pub schema: Option<Schema>,
-    pub keys: Vec<Vec<u8>>,
-    pub view: PlainView,
-}
-
-impl Bench {
-    /// No schema, no key and no table.
-    pub fn new(alloc: Global) -> Bench {
-        Bench {
-            alloc,
-            schema: None,
-            keys: Vec::new(alloc),
-            view: PlainView::new(alloc),
-        }
-    }
+pub struct Asked {
+    alloc: Global,
+    schema: Option<Schema>,
+    keys: Vec<Vec<u8>>,
+    views: Views,
+    written: Vec<u8>,
 }
 
 // The words of a line.
-fn words_of<'a>(alloc: Global, text: &'a str) -> Result<Vec<&'a str>, AllocError> {
+fn words_of<'a>(alloc: Global, line: &'a str) -> Option<Vec<&'a str>> {
     let mut words = Vec::new(alloc);
-    for word in text.split_ascii_whitespace() {
-        words.push(word)?;
+    for word in line.split_ascii_whitespace() {
+        words.push(word).ok()?;
     }
-    Ok(words)
+    Some(words)
 }
 
-fn take_schema(bench: &mut Bench, words: &[&str], told: &mut String) -> Result<(), AllocError> {
-    bench.schema = match schema_of(bench.alloc, words) {
-        Some(schema) => schema,
-        None => None,
-    };
-    match &bench.schema {
-        Some(schema) => tell_schema(bench.alloc, schema, told),
-        None => say(told, "no schema"),
-    }
-}
-
-fn keep_key(bench: &mut Bench, words: &[&str]) -> Result<(), AllocError> {
-    match &bench.schema {
-        Some(schema) => match key_of(bench.alloc, schema, words) {
-            Some(key) => bench.keys.push(key)?,
-            None => return Ok(()),
-        },
-        None => return Ok(()),
-    }
-    Ok(())
-}
-
-// Of bytes without a schema.
-fn ask_bytes(alloc: Global, verb: &str, bytes: &[u8], told: &mut String) -> Result<(), AllocError> {
-    match verb {
-        "read" => tell_read(alloc, bytes, told),
-        "change" => tell_change(alloc, bytes, told),
-        "damage" => tell_damage(alloc, bytes, told),
-        _ => tell_parts_of_change(alloc, bytes, told),
-    }
-}
-
-// Of bytes with a schema.
-fn ask_of_schema(
-    bench: &Bench,
-    verb: &str,
-    bytes: &[u8],
-    told: &mut String,
-) -> Result<(), AllocError> {
-    let Some(schema) = &bench.schema else {
-        return say(told, "no schema");
-    };
-    match verb {
-        "row" => tell_bytes_of_row(bench.alloc, schema, bytes, told),
-        "key" => tell_key(schema, bytes, told),
-        "parts-of-key" => tell_parts(schema, bytes, told),
-        "order" => tell_order(schema, &bench.keys, told),
-        _ => tell_list(bench.alloc, schema, bytes, told),
-    }
-}
-
-// Of values with a schema.
-fn ask_values(
-    bench: &Bench,
-    verb: &str,
-    words: &[&str],
-    told: &mut String,
-) -> Result<(), AllocError> {
-    match &bench.schema {
-        Some(schema) => tell_values(bench.alloc, schema, verb, words, told),
-        None => say(told, "no schema"),
-    }
-}
-
-fn answer_words(
-    bench: &mut Bench,
-    verb: &str,
-    words: &[&str],
-    told: &mut String,
-) -> Result<(), AllocError> {
-    match verb {
-        "schema" => take_schema(bench, words, told),
-        "keep-key" => keep_key(bench, words),
-        "pushes" => tell_pushes(bench.alloc, words, told),
-        "values" | "admits" => ask_values(bench, verb, words, told),
-        _ => answer_of_view(bench, verb, words, told),
-    }
-}
-
-const OF_BYTES: [&'static str; 4] = ["read", "change", "damage", "parts-of-change"];
-
-const OF_SCHEMA: [&'static str; 5] = ["row", "key", "parts-of-key", "order", "list"];
-
-fn is_among(verbs: &[&str], verb: &str) -> bool {
-    for it in verbs {
-        if *it == verb {
-            return true;
+impl Asked {
+    /// No schema, no key and no table.
+    pub fn new(alloc: Global) -> Asked {
+        Asked {
+            alloc,
+            schema: None,
+            keys: Vec::new(alloc),
+            views: Views::new(alloc),
+            written: Vec::new(alloc),
         }
     }
-    false
-}
 
-fn answer(bench: &mut Bench, line: &str, told: &mut String) -> Result<(), AllocError> {
-    let (verb, text) = line.split_once(' ').unwrap_or((line, ""));
-    if is_among(&OF_BYTES, verb) {
-        return ask_bytes(bench.alloc, verb, &bytes_of(bench.alloc, &[text])?, told);
+    /// Each line, and what it came to.
+    pub fn written(&self) -> &[u8] {
+        &self.written
     }
-    if is_among(&OF_SCHEMA, verb) {
-        return ask_of_schema(bench, verb, &bytes_of(bench.alloc, &[text])?, told);
-    }
-    answer_words(bench, verb, &words_of(bench.alloc, text)?, told)
-}
 
-/// Tells a line, and what it comes to where it is not empty and does not begin with #.
-pub fn tell(bench: &mut Bench, line: &str, told: &mut String) -> Result<(), AllocError> {
-    write!(told, "{line}\n")?;
-    if line.is_empty() || line.starts_with('#') {
-        return Ok(());
+    /// Answers each line that is not empty and does not begin with #. None where a line asks for nothing that there is, and
+    /// without memory.
+    pub fn follow(&mut self, text: &str) -> Option<()> {
+        for line in text.split('\n') {
+            self.written.extend_from_slice(line.as_bytes()).ok()?;
+            self.written.push(b'\n').ok()?;
+            if !line.is_empty() && !line.starts_with('#') {
+                self.answer(line)?;
+            }
+        }
+        Some(())
     }
-    answer(bench, line, told)
+
+    fn answer(&mut self, line: &str) -> Option<()> {
+        let words = words_of(self.alloc, line)?;
+        let [verb, words @ ..] = words.as_slice() else {
+            return None;
+        };
+        match *verb {
+            "schema" => self.take_schema(words),
+            "read" => tell_read(self.alloc, words, &mut self.written),
+            "change" => tell_change(self.alloc, words, &mut self.written),
+            "damage" => tell_damage(self.alloc, words, &mut self.written),
+            "parts-of-change" => tell_parts_of_change(self.alloc, words, &mut self.written),
+            "pushes" => tell_pushes(self.alloc, words, &mut self.written),
+            "keep-key" => self.keep_key(words),
+            _ => self.answer_with_schema(verb, words),
+        }
+    }
+
+    fn take_schema(&mut self, words: &[&str]) -> Option<()> {
+        self.schema = schema_of(self.alloc, words)?;
+        match &self.schema {
+            Some(schema) => tell_schema(self.alloc, schema, &mut self.written),
+            None => self.written.extend_from_slice(b"  no schema\n").ok(),
+        }
+    }
+
+    fn keep_key(&mut self, words: &[&str]) -> Option<()> {
+        let Some(schema) = &self.schema else {
+            return None;
+        };
+        self.keys.push(key_of(self.alloc, schema, words)?).ok()
+    }
+
+    fn answer_with_schema(&mut self, verb: &str, words: &[&str]) -> Option<()> {
+        let Some(schema) = &self.schema else {
+            return None;
+        };
+        let out = &mut self.written;
+        match verb {
+            "values" => tell_values(self.alloc, schema, words, out),
+            "admits" => tell_admitted(self.alloc, schema, words, out),
+            "row" => tell_bytes(self.alloc, schema, words, out),
+            "key" => tell_key(self.alloc, schema, words, out),
+            "parts-of-key" => tell_parts(self.alloc, schema, words, out),
+            "order" => tell_order(schema, &self.keys, out),
+            "list" => tell_list(self.alloc, schema, words, out),
+            _ => self.views.answer(schema, verb, words, out),
+        }
+    }
 }

@@ -4,28 +4,28 @@
 
 mod asked;
 mod changes;
-mod keys;
-mod lists;
 mod rows;
 mod schemas;
-mod told;
 mod views;
 
-use crate::asked::{Bench, tell};
-use std::alloc::AllocError;
-use std::io;
+use crate::asked::Asked;
+use std::io::{self, Write};
+use std::process::ExitCode;
 
-fn main(rt: HostRuntime) -> io::Result<()> {
-    let text = io::read_to_string(rt.alloc(), rt.stdin())?;
-    let mut told = String::new(rt.alloc());
-    follow(&rt, &text, &mut told)?;
-    print!(rt; "{told}")
+fn main(rt: HostRuntime) -> ExitCode {
+    match answer_all(&rt) {
+        Ok(true) => ExitCode::from(0),
+        _ => ExitCode::from(1),
+    }
 }
 
-fn follow(rt: &HostRuntime, text: &str, told: &mut String) -> Result<(), AllocError> {
-    let mut bench = Bench::new(rt.alloc());
-    for line in text.lines() {
-        tell(&mut bench, line, told)?;
-    }
-    Ok(())
+// Whether each line was answered.
+fn answer_all(rt: &HostRuntime) -> io::Result<bool> {
+    let text = io::read_to_string(rt.alloc(), rt.stdin())?;
+    let mut asked = Asked::new(rt.alloc());
+    let is_done = asked.follow(&text).is_some();
+    let mut out = rt.stdout();
+    out.write_all(asked.written())?;
+    out.flush()?;
+    Ok(is_done)
 }

@@ -1,69 +1,43 @@
-//! The bytes of rows and keys, and what is read from them.
+//! The bytes of rows and keys, what is read from them, and their order.
 
-use crate::told::{say, tell_behind, tell_line};
 use row_values::{
-    Column, Misfit, RowError, RowRef, Schema, Value, are_key, are_row, encode_key, encode_row,
-    is_key,
+    Column, Misfit, RowError, RowRef, Schema, Value, are_key, are_row, compare_keys, encode_key,
+    encode_row, is_key,
 };
-use std::alloc::{AllocError, Global};
-use test_rows::{cells_of, values_of};
+use std::alloc::Global;
+use std::cmp::Ordering;
+use test_bytes::bytes_of;
+use test_rows::{cells_of, say, tell, values_of};
 
-// Whether the values of a row are these, one after another.
+// Whether the values of a row are these, one after another and each from its column.
 fn has_values(row: RowRef<'_>, values: &[Value<'_>]) -> bool {
     let mut i = 0_usize;
+    let mut all = row.schema().columns().len() == values.len();
     for value in row.values() {
-        if values.get(i) != Some(&value) {
-            return false;
-        }
+        let is_there = i < row.schema().columns().len() && row.column(i) == value;
+        all = all && is_there && values.get(i) == Some(&value);
         i = i.wrapping_add(1);
     }
-    i == values.len()
-}
-
-// Whether they are these, each from its column.
-fn has_columns(row: RowRef<'_>, values: &[Value<'_>]) -> bool {
-    for i in 0..row.schema().columns().len() {
-        if values.get(i) != Some(&row.column(i)) {
-            return false;
-        }
-    }
-    row.schema().columns().len() == values.len()
+    all && i == values.len()
 }
 
 // Whether these bytes are a row that has these values.
 fn reads_back(schema: &Schema, bytes: &[u8], values: &[Value<'_>]) -> bool {
     match RowRef::parse(schema, bytes) {
-        Ok(row) => has_values(row, values) && has_columns(row, values),
+        Ok(row) => has_values(row, values),
         Err(_) => false,
     }
 }
 
-fn tell_row(
-    schema: &Schema,
-    row: &[u8],
-    values: &[Value<'_>],
-    told: &mut String,
-) -> Result<(), AllocError> {
-    if reads_back(schema, row, values) {
-        tell_line(told, "row", row)
-    } else {
-        say(told, "another row")
-    }
-}
-
-fn tell_encoded(
-    alloc: Global,
-    schema: &Schema,
-    values: &[Value<'_>],
-    told: &mut String,
-) -> Result<(), AllocError> {
+fn tell_row(alloc: Global, schema: &Schema, values: &[Value<'_>], out: &mut Vec<u8>) -> Option<()> {
     if !are_row(schema, values) {
-        return say(told, "no row");
+        return say(out, "no row");
     }
     match encode_row(alloc, schema, values) {
-        Ok(row) => tell_row(schema, &row, values, told),
-        Err(RowError::TooLong) => say(told, "a row that is too long"),
-        Err(RowError::NoMemory) => Err(AllocError),
+        Ok(bytes) if reads_back(schema, &bytes, values) => tell(alloc, out, "row", &bytes),
+        Ok(_) => say(out, "another row"),
+        Err(RowError::TooLong) => say(out, "a row that is too long"),
+        Err(RowError::NoMemory) => None,
     }
 }
 
@@ -71,17 +45,29 @@ fn tell_key_of(
     alloc: Global,
     schema: &Schema,
     values: &[Value<'_>],
-    told: &mut String,
-) -> Result<(), AllocError> {
+    out: &mut Vec<u8>,
+) -> Option<()> {
     if !are_key(schema, values) {
-        return say(told, "no key");
+        return say(out, "no key");
     }
-    let key = encode_key(alloc, schema, values)?;
-    if is_key(schema, &key) {
-        tell_line(told, "key", &key)
-    } else {
-        say(told, "another key")
+    let key = encode_key(alloc, schema, values).ok()?;
+    if !is_key(schema, &key) {
+        return say(out, "another key");
     }
+    tell(alloc, out, "key", &key)
+}
+
+/// What the values are as a row, which is read again, and what they are as a key.
+pub fn tell_values(
+    alloc: Global,
+    schema: &Schema,
+    words: &[&str],
+    out: &mut Vec<u8>,
+) -> Option<()> {
+    let cells = cells_of(alloc, words)?;
+    let values = values_of(alloc, &cells)?;
+    tell_row(alloc, schema, &values, out)?;
+    tell_key_of(alloc, schema, &values, out)
 }
 
 fn misfit(column: &Column, value: &Value<'_>) -> &'static str {
@@ -94,100 +80,109 @@ fn misfit(column: &Column, value: &Value<'_>) -> &'static str {
     }
 }
 
-fn tell_admitted(
-    column: &Column,
-    values: &[Value<'_>],
-    told: &mut String,
-) -> Result<(), AllocError> {
-    for value in values {
-        say(told, misfit(column, value))?;
-    }
-    Ok(())
-}
-
-// What each column of the schema says of each value.
-fn tell_all_admitted(
-    schema: &Schema,
-    values: &[Value<'_>],
-    told: &mut String,
-) -> Result<(), AllocError> {
-    for column in schema.columns() {
-        tell_admitted(column, values, told)?;
-    }
-    Ok(())
-}
-
-fn tell_both(
+/// What each column of the schema says of each value.
+pub fn tell_admitted(
     alloc: Global,
     schema: &Schema,
-    values: &[Value<'_>],
-    told: &mut String,
-) -> Result<(), AllocError> {
-    tell_encoded(alloc, schema, values, told)?;
-    tell_key_of(alloc, schema, values, told)
-}
-
-/// Tells what the values are as a row, which is read again, and what they are as a key; or what each column says of each of them.
-pub fn tell_values(
-    alloc: Global,
-    schema: &Schema,
-    verb: &str,
     words: &[&str],
-    told: &mut String,
-) -> Result<(), AllocError> {
-    let Some(cells) = cells_of(alloc, words) else {
-        return say(told, "no values");
-    };
-    match values_of(alloc, &cells) {
-        Some(values) if verb == "values" => tell_both(alloc, schema, &values, told),
-        Some(values) => tell_all_admitted(schema, &values, told),
-        None => say(told, "no values"),
+    out: &mut Vec<u8>,
+) -> Option<()> {
+    let cells = cells_of(alloc, words)?;
+    let values = values_of(alloc, &cells)?;
+    for column in schema.columns() {
+        for value in &values {
+            say(out, misfit(column, value))?;
+        }
     }
+    Some(())
 }
 
-fn tell_columns(row: RowRef<'_>, told: &mut String) -> Result<(), AllocError> {
+/// Whether these bytes are a row, how many bytes, columns and key columns it shows, and its key.
+pub fn tell_bytes(alloc: Global, schema: &Schema, words: &[&str], out: &mut Vec<u8>) -> Option<()> {
+    let bytes = bytes_of(alloc, words).ok()?;
+    let Ok(row) = RowRef::parse(schema, &bytes) else {
+        return say(out, "no row");
+    };
+    tell(alloc, out, "a row:", row.bytes())?;
+    tell_columns(alloc, row, out)?;
+    tell(alloc, out, "its key", &row.key(alloc).ok()?)
+}
+
+fn tell_columns(alloc: Global, row: RowRef<'_>, out: &mut Vec<u8>) -> Option<()> {
     let columns = row.schema().columns().len();
-    write!(told, "  of {columns} columns, the key:")?;
-    tell_behind(told, row.schema().key())
+    let told = format!(in alloc; "of {columns} columns, the key:").ok()?;
+    tell(alloc, out, &told, row.schema().key())
 }
 
-/// Tells whether these bytes are a row, how many bytes, columns and key columns it shows, and its key.
-pub fn tell_bytes_of_row(
-    alloc: Global,
-    schema: &Schema,
-    bytes: &[u8],
-    told: &mut String,
-) -> Result<(), AllocError> {
-    let Ok(row) = RowRef::parse(schema, bytes) else {
-        return say(told, "no row");
-    };
-    tell_line(told, "a row:", row.bytes())?;
-    tell_columns(row, told)?;
-    tell_line(told, "its key", &row.key(alloc)?)
-}
-
-fn encoded_key(alloc: Global, schema: &Schema, values: &[Value<'_>]) -> Option<Vec<u8>> {
-    if !are_key(schema, values) {
-        return None;
-    }
-    encode_key(alloc, schema, values).ok()
-}
-
-fn encoded_row(alloc: Global, schema: &Schema, values: &[Value<'_>]) -> Option<Vec<u8>> {
-    if !are_row(schema, values) {
-        return None;
-    }
-    encode_row(alloc, schema, values).ok()
+/// Whether these bytes are a key.
+pub fn tell_key(alloc: Global, schema: &Schema, words: &[&str], out: &mut Vec<u8>) -> Option<()> {
+    let bytes = bytes_of(alloc, words).ok()?;
+    say(
+        out,
+        if is_key(schema, &bytes) {
+            "a key"
+        } else {
+            "no key"
+        },
+    )
 }
 
 /// The bytes of the key of these values; None where they are no key.
 pub fn key_of(alloc: Global, schema: &Schema, words: &[&str]) -> Option<Vec<u8>> {
     let cells = cells_of(alloc, words)?;
-    encoded_key(alloc, schema, &values_of(alloc, &cells)?)
+    let values = values_of(alloc, &cells)?;
+    if !are_key(schema, &values) {
+        return None;
+    }
+    encode_key(alloc, schema, &values).ok()
 }
 
 /// The bytes of the row of these values; None where they are none.
 pub fn row_of(alloc: Global, schema: &Schema, words: &[&str]) -> Option<Vec<u8>> {
     let cells = cells_of(alloc, words)?;
-    encoded_row(alloc, schema, &values_of(alloc, &cells)?)
+    let values = values_of(alloc, &cells)?;
+    if !are_row(schema, &values) {
+        return None;
+    }
+    encode_row(alloc, schema, &values).ok()
+}
+
+/// How many of these bytes' fronts are keys, but for the whole.
+pub fn tell_parts(alloc: Global, schema: &Schema, words: &[&str], out: &mut Vec<u8>) -> Option<()> {
+    let bytes = bytes_of(alloc, words).ok()?;
+    let mut keys = 0_usize;
+    for length in 0..bytes.len() {
+        if is_key(schema, &bytes[..length]) {
+            keys = keys.wrapping_add(1);
+        }
+    }
+    let parts = bytes.len();
+    say(
+        out,
+        &format!(in alloc; "{keys} keys among {parts} parts").ok()?,
+    )
+}
+
+// How two keys stand.
+fn order(schema: &Schema, a: &[u8], b: &[u8]) -> u8 {
+    if !is_key(schema, a) || !is_key(schema, b) {
+        return b'?';
+    }
+    match compare_keys(schema, a, b) {
+        Ordering::Less => b'<',
+        Ordering::Equal => b'=',
+        Ordering::Greater => b'>',
+    }
+}
+
+/// How each key stands to each other one, a line for each.
+pub fn tell_order(schema: &Schema, keys: &[Vec<u8>], out: &mut Vec<u8>) -> Option<()> {
+    for first in keys {
+        out.extend_from_slice(b"  ").ok()?;
+        for second in keys {
+            out.push(order(schema, first, second)).ok()?;
+        }
+        out.push(b'\n').ok()?;
+    }
+    Some(())
 }
