@@ -1,6 +1,5 @@
 //! What is asked, a line each. Keys and rows are words of digits; - stands for no bytes.
 
-use crate::forms::{tell_order, tell_row_form, tell_written};
 use key_map::{OrderedRows, Overlay, sort_form};
 use row_values::{Schema, is_key};
 use std::alloc::Global;
@@ -121,7 +120,6 @@ impl Asked {
                 self.schema = schema_of(self.alloc, words)?;
                 Some(())
             }
-            [verb, words @ ..] if verb.starts_with("row-") => self.tell_row_forms(verb, words),
             [verb] => self.answer_alone(verb),
             [verb, key] => {
                 let key = bytes_of(self.alloc, &[*key]).ok()?;
@@ -133,19 +131,6 @@ impl Asked {
                 self.answer_of_row(verb, key, row)
             }
             _ => None,
-        }
-    }
-
-    // `row-order` compares forms with rows, `row-forms` writes them one behind another, and `row-form` tells the one of a row.
-    fn tell_row_forms(&mut self, verb: &str, words: &[&str]) -> Option<()> {
-        let (alloc, out) = (self.alloc, &mut self.written);
-        let Some(schema) = &self.schema else {
-            return None;
-        };
-        match verb {
-            "row-order" => tell_order(alloc, schema, words, out),
-            "row-forms" => tell_written(alloc, schema, words, out),
-            _ => tell_row_form(alloc, schema, &bytes_of(alloc, words).ok()?, out),
         }
     }
 

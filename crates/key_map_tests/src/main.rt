@@ -1,9 +1,8 @@
-//! Tests of key_map. Each line of standard input does something to rows by their keys or to an overlay, or looks at them or at forms; what is seen
+//! Tests of key_map. Each line of standard input does something to rows by their keys or to an overlay, or looks at them; what is seen
 //! goes to standard output, which is compared.
 #![tactic(auto)]
 
 mod asked;
-mod forms;
 
 use crate::asked::Asked;
 use std::io::{self, Write};

@@ -1,12 +1,13 @@
-//! What is asked of a section.
+//! What is asked, a line each.
 
 use crate::rows::rows_of;
 use sections::{NotPrepared, OpenFault, QueryNotOpen, Sections};
 use sql_text::{Command, parse};
 use std::alloc::{AllocError, Global};
+use test_bytes::bytes_of;
 
-/// The shortest name: 64 bytes, of which the first two are a number.
-pub fn name_of(number: u16) -> [u8; 64] {
+// The shortest name: 64 bytes, of which the first two are a number.
+fn name_of(number: u16) -> [u8; 64] {
     let mut name = [0x20; 64];
     let [high, low] = number.to_be_bytes();
     name[0] = high;
@@ -32,10 +33,10 @@ fn open(
     told: &mut String,
 ) -> Result<(), AllocError> {
     let (size, lengths) = rest.split_once(' ').unwrap_or((rest, ""));
-    let Some(rows) = rows_of(alloc, lengths) else {
+    let (Ok(size), Some(rows)) = (size.parse::<u32>(), rows_of(alloc, lengths)) else {
         return told.push_str("no rows");
     };
-    match sections.open_cursor(name, rows, size.parse::<u32>().unwrap_or(0)) {
+    match sections.open_cursor(name, rows, size) {
         Ok(instance) => write!(told, "cursor {instance}"),
         Err(fault) => told.push_str(said_opening(Err(fault))),
     }
@@ -101,8 +102,7 @@ fn prepare(
     }
 }
 
-/// Tells what is answered of the section of a name.
-pub fn answer_of_section(
+fn tell_section(
     alloc: Global,
     sections: &mut Sections,
     verb: &str,
@@ -120,4 +120,80 @@ pub fn answer_of_section(
         _ => return told.push_str("nothing is asked"),
     }
     told.push_str("done")
+}
+
+// Of sections with the numbers from one to another the last answer is told.
+fn tell_last(
+    alloc: Global,
+    sections: &mut Sections,
+    verb: &str,
+    (first, last): (u16, u16),
+    rest: &str,
+    told: &mut String,
+) -> Result<(), AllocError> {
+    let mut one = String::new(alloc);
+    for number in first..=last {
+        one.clear();
+        tell_section(alloc, sections, verb, &name_of(number), rest, &mut one)?;
+    }
+    told.push_str(&one)
+}
+
+// A name is a number, or the bytes of the name.
+fn tell_named(
+    alloc: Global,
+    sections: &mut Sections,
+    verb: &str,
+    rest: &str,
+    told: &mut String,
+) -> Result<(), AllocError> {
+    let (names, rest) = rest.split_once(' ').unwrap_or((rest, ""));
+    let (first, last) = names.split_once("..").unwrap_or((names, names));
+    match (first.parse::<u16>(), last.parse::<u16>()) {
+        (Ok(first), Ok(last)) => tell_last(alloc, sections, verb, (first, last), rest, told),
+        _ => tell_section(
+            alloc,
+            sections,
+            verb,
+            &bytes_of(alloc, &[names])?,
+            rest,
+            told,
+        ),
+    }
+}
+
+// `new` begins with no section, `commit` and `rollback` end a unit, and `prepare-reserved` and `drop-reserved` do what they say; all else
+// is asked of the section of a name, or of those with the numbers from one to another, as 0..63.
+fn answer(
+    alloc: Global,
+    sections: &mut Sections,
+    line: &str,
+    told: &mut String,
+) -> Result<(), AllocError> {
+    let (verb, rest) = line.split_once(' ').unwrap_or((line, ""));
+    match verb {
+        "new" => *sections = Sections::new(alloc),
+        "commit" => sections.end_unit(true),
+        "rollback" => sections.end_unit(false),
+        "prepare-reserved" => sections.prepare_reserved(),
+        "drop-reserved" => sections.drop_reserved(),
+        _ => return tell_named(alloc, sections, verb, rest, told),
+    }
+    told.push_str("done")
+}
+
+/// Tells a line, and what it comes to where it does not begin with #.
+pub fn tell(
+    alloc: Global,
+    sections: &mut Sections,
+    line: &str,
+    told: &mut String,
+) -> Result<(), AllocError> {
+    write!(told, "{line}\n")?;
+    if line.starts_with('#') {
+        return Ok(());
+    }
+    told.push_str("  ")?;
+    answer(alloc, sections, line, told)?;
+    told.push_str("\n")
 }

@@ -1,0 +1,9 @@
+//! Tests of sqlam_replies.
+#![tactic(auto)]
+
+#[cfg(test)]
+mod blocks;
+#[cfg(test)]
+mod fixtures;
+#[cfg(test)]
+mod texts;
