@@ -1,14 +1,9 @@
-//! Tests of xa_calls and xa_manager: the numbers of calls, flags and codes, the bytes of XIDs, which data name a call, and the table of
-//! answers cell by cell, with values from C193 chapters 4 to 6; its limits, and what a lost conversation leaves. What each line of standard
-//! input comes to goes to standard output, which is compared.
+//! Tests of xa_manager: the table of answers cell by cell, with values from C193 chapter 6, its limits, and what a lost conversation
+//! leaves. What each line of standard input comes to goes to standard output, which is compared.
 #![tactic(auto)]
 
 mod asked;
 mod calls;
-mod numbers;
-mod requests;
-mod tables;
-mod xids;
 
 use crate::asked::tell;
 use std::alloc::AllocError;
