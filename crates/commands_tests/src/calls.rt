@@ -3,7 +3,7 @@
 use core_calls::CoreCall;
 use row_values::Value;
 use sql_text::parse;
-use std::test::Fail;
+use std::alloc::{AllocError, Global};
 use xa_calls::{InvalidRequest, Request};
 
 // How many markers and parameters a call brings.
@@ -22,28 +22,29 @@ fn counts(call: &CoreCall<'_, '_, '_>) -> (usize, usize) {
     }
 }
 
-#[test]
-fn calls_lend_statements_and_parameters(rt: HostRuntime) -> Result<(), Fail> {
-    let Ok(statement) = parse(rt.alloc(), "INSERT INTO T VALUES (?, 'a')") else {
-        return Err(Fail::from("not parsed"));
+/// How many markers and parameters a call with one parameter brings, where the text is a statement.
+pub fn lent(alloc: Global, text: &str) -> (usize, usize) {
+    let Ok(statement) = parse(alloc, text) else {
+        return (0, 0);
     };
     let parameters = [Value::Number(1)];
     let call = CoreCall::Run {
         statement: &statement,
         parameters: &parameters,
     };
-    assert_eq!(rt; counts(&call), (1, 1));
-    Ok(())
+    counts(&call)
 }
 
-#[test]
-fn an_xa_call_may_be_none(rt: HostRuntime) {
+/// Tells how many markers and parameters calls bring that have no statement.
+pub fn tell_bare(told: &mut String) -> Result<(), AllocError> {
     let calls = [
         CoreCall::Xa(Ok(Request::Recover)),
         CoreCall::Xa(Err(InvalidRequest)),
         CoreCall::Lost,
     ];
     for call in &calls {
-        assert_eq!(rt; counts(call), (0, 0));
+        let (markers, parameters) = counts(call);
+        write!(told, "{markers} {parameters}; ")?;
     }
+    Ok(())
 }
