@@ -31,12 +31,7 @@ impl Ask for Scripted {
 // What the conversation has to say next, with ample memory; whether there may be more.
 fn push_answer(front: &mut Front, asker: &mut Scripted, out: &mut Vec<u8>) -> Option<bool> {
     out.reserve(21).ok()?;
-    let need = front.next(asker, out);
-    push_need(need, out)
-}
-
-fn push_need(need: Need, out: &mut Vec<u8>) -> Option<bool> {
-    match need {
+    match front.next(asker, out) {
         Need::Local => Some(true),
         Need::Short(bytes) => {
             out.extend_from_slice(&bytes).ok()?;
@@ -103,37 +98,19 @@ pub struct Outcome {
     pub is_closed: bool,
 }
 
-fn fresh_front(alloc: Global) -> Option<Front> {
-    let settings = Settings::new(alloc, "ana", "pw", "SHOP").ok()?;
-    match Front::new(alloc, &settings) {
-        Ok(front) => Some(front),
-        Err(_) => None,
-    }
-}
-
 // What becomes of a request that comes in such pieces.
 fn outcome_in_pieces(
     alloc: Global,
     request: &[u8],
     reply: &[u8],
     is_lost: bool,
-    pieces: (usize, usize),
-) -> Option<Outcome> {
-    let mut front = fresh_front(alloc)?;
-    outcome_of(alloc, &mut front, request, reply, is_lost, pieces)
-}
-
-fn outcome_of(
-    alloc: Global,
-    front: &mut Front,
-    request: &[u8],
-    reply: &[u8],
-    is_lost: bool,
     (first, size): (usize, usize),
 ) -> Option<Outcome> {
+    let settings = Settings::new(alloc, "ana", "pw", "SHOP").ok()?;
+    let mut front = Front::new(alloc, &settings).ok()?;
     let mut asker = Scripted { is_lost, asked: 0 };
     let mut out = Vec::new(alloc);
-    push_answers_in_pieces(front, &mut asker, request, first, size, &mut out)?;
+    push_answers_in_pieces(&mut front, &mut asker, request, first, size, &mut out)?;
     Some(Outcome {
         is_answered: out.as_slice() == reply,
         asked: asker.asked,

@@ -1,13 +1,32 @@
-//! Conversations that are served, a line each.
+//! Tests of stream_service: conversations over streams that are whole, in bytes, and broken. Each line of standard input is one; what
+//! became of it goes to standard output, which is compared.
+#![tactic(auto)]
+
+mod conversations;
+mod cores;
+mod devices;
+mod names;
+mod sockets;
+mod streams;
 
 use crate::conversations::tell_served;
 use crate::cores::{Core, core_over};
 use crate::devices::tell_places;
 use crate::sockets::tell_socket;
 use std::alloc::AllocError;
+use std::io::{self, Write};
 
-/// Each part of the text, of which `core` stands in front, is heard by a core of its own: writes each line down, and what it comes to.
-pub fn follow_streams(rt: &HostRuntime, text: &str, out: &mut String) -> Result<(), AllocError> {
+fn main(rt: HostRuntime) -> io::Result<()> {
+    let text = io::read_to_string(rt.alloc(), rt.stdin())?;
+    let mut told = String::new(rt.alloc());
+    follow(&rt, &text, &mut told)?;
+    let mut out = rt.stdout();
+    out.write_all(told.as_bytes())?;
+    out.flush()
+}
+
+// Each part of the text, of which `core` stands in front, is heard by a core of its own.
+fn follow(rt: &HostRuntime, text: &str, out: &mut String) -> Result<(), AllocError> {
     for part in text.split("core\n") {
         if !part.is_empty() {
             hear(rt, text, part, out)?;
@@ -16,23 +35,18 @@ pub fn follow_streams(rt: &HostRuntime, text: &str, out: &mut String) -> Result<
     Ok(())
 }
 
+// Writes each line down, and what it comes to, over one core.
 fn hear(rt: &HostRuntime, text: &str, part: &str, out: &mut String) -> Result<(), AllocError> {
     writeln!(out, "core")?;
     let mut core = core_over(rt.alloc(), u64::MAX)?;
-    hear_lines(rt, &mut core, text, part, out)
-}
-
-fn hear_lines(
-    rt: &HostRuntime,
-    core: &mut Core,
-    text: &str,
-    part: &str,
-    out: &mut String,
-) -> Result<(), AllocError> {
+    let mut done = Ok(());
     for line in part.lines() {
-        answer(rt, core, text, line, out)?;
+        done = answer(rt, &mut core, text, line, out);
+        if done.is_err() {
+            break;
+        }
     }
-    Ok(())
+    done
 }
 
 // Writes down a line, and what it comes to: how the streams behave, requests behind a colon, and what they are to be answered behind <. A
