@@ -5,7 +5,6 @@ use drda_disk::{Disk, FuseDisk, MemDisk};
 use row_pages::{PageBuilder, PageCache, PageKind, Pager};
 use row_values::Schema;
 use std::alloc::{AllocError, Global};
-use store_check::CheckError;
 use test_bytes::bytes_of;
 use test_rows::schema_of;
 
@@ -35,7 +34,7 @@ fn number_in(text: &str) -> (u32, &str) {
 }
 
 // Writes bytes at a place of the pages, where the disk has room for them.
-fn put<D: Disk>(disk: &mut D, place: usize, bytes: &[u8]) {
+fn put(disk: &mut MemDisk, place: usize, bytes: &[u8]) {
     let at = TABLE_AT.saturating_add(place);
     if at <= disk.size() && bytes.len() <= disk.size() - at {
         let _ = disk.write_at(at, bytes);
@@ -91,42 +90,28 @@ impl Pages {
         Ok(())
     }
 
-    // A copy of the disk, whose calls fail behind so many.
-    fn pager(&self) -> Result<Pager<FuseDisk<MemDisk>>, AllocError> {
-        let cache = PageCache::new(self.alloc, 2)?;
-        match self.disk.copy(self.alloc) {
-            Ok(disk) => Ok(Pager::over(FuseDisk::new(disk, self.calls, false), cache)),
-            Err(_) => Err(AllocError),
-        }
-    }
-
     // Tells what pages are: of a table, of a catalogue, or of a half.
     fn tell(&self, verb: &str, asked: &str, out: &mut String) -> Result<(), AllocError> {
         let (count, place) = number_in(asked);
-        let mut pager = self.pager()?;
+        let (first, catalogue) = number_in(place);
+        let (catalogue, _) = number_in(catalogue);
+        let disk = FuseDisk::new(self.disk.copy(self.alloc)?, self.calls, false);
+        let cache = PageCache::new(self.alloc, 2)?;
+        let (alloc, pager) = (self.alloc, &mut Pager::over(disk, cache));
         match verb {
             "table" => {
-                let told = rows_of(self.alloc, &self.schema, &mut pager, count as usize);
+                let told = rows_of(alloc, &self.schema, pager, count as usize);
                 writeln!(out, "  {told:?}")
             }
             "listed" => {
-                let told = tables_of(self.alloc, &mut pager, count as usize);
+                let told = tables_of(alloc, pager, count as usize);
                 writeln!(out, "  {told:?}")
             }
             _ => {
-                let (first, catalogue) = number_in(place);
-                let (catalogue, _) = number_in(catalogue);
-                let told = half_of(self.alloc, &mut pager, count, (first, catalogue));
+                let told = half_of(alloc, pager, count, (first, catalogue));
                 writeln!(out, "  {told:?}")
             }
         }
-    }
-
-    // How many rows the table has by its map, or its first bad page, where a byte that is put at a place is 01.
-    fn with_byte(&self, place: usize) -> Result<Result<usize, CheckError>, AllocError> {
-        let mut pager = self.pager()?;
-        put(&mut pager, place, &[1]);
-        Ok(rows_of(self.alloc, &self.schema, &mut pager, 3))
     }
 
     // Tells of how many of the places of a range a byte that is put there, 01, makes the table damaged in its second page, and of how many
@@ -136,7 +121,11 @@ impl Pages {
         let (to, _) = number_in(to);
         let mut last = None;
         for place in from..to {
-            let told = self.with_byte(place as usize)?;
+            let mut disk = self.disk.copy(self.alloc)?;
+            put(&mut disk, place as usize, &[1]);
+            let cache = PageCache::new(self.alloc, 2)?;
+            let mut pager = Pager::over(disk, cache);
+            let told = rows_of(self.alloc, &self.schema, &mut pager, 3);
             if last != Some(told) {
                 writeln!(out, "  from {place} on: {told:?}")?;
                 last = Some(told);
@@ -145,18 +134,10 @@ impl Pages {
         Ok(())
     }
 
-    /// Does the steps of a line.
-    pub fn answer_all(&mut self, line: &str, out: &mut String) -> Result<(), AllocError> {
-        for step in line.split("; ") {
-            self.answer(step, out)?;
-        }
-        Ok(())
-    }
-
-    // Does a step. `begin` takes all pages away, `rows` and `catalogue` lay a page, `put` changes bytes, and `stop` lets so many calls of
-    // each check through. `table`, `listed` and `half` tell what the pages are, and `each` what they are with a byte at each place of a
-    // range.
-    fn answer(&mut self, step: &str, out: &mut String) -> Result<(), AllocError> {
+    /// Does a step. `begin` takes all pages away, `rows` and `catalogue` lay a page, `put` changes bytes, and `stop` lets so many calls of
+    /// each check through. `table`, `listed` and `half` tell what the pages are, and `each` what they are with a byte at each place of a
+    /// range.
+    pub fn answer(&mut self, step: &str, out: &mut String) -> Result<(), AllocError> {
         let (verb, rest) = step.split_once(' ').unwrap_or((step, ""));
         match verb {
             "begin" => self.begin(),

@@ -2,7 +2,7 @@
 ghost use Rattle.std.specs.Prelude.{◌≡◌, ◌+◌, ◌*◌, ◌^◌, ◌≤◌, IfOk, length};
 ghost use Rattle.drda_disk.specs.Disk.{Stays};
 
-use crate::first_byte::{FirstByte, byte_of, pair};
+use crate::keys::{FirstByte, byte_of, pair};
 use crate::stores::{Run, STORE_BYTES};
 use drda_disk::Disk;
 use key_map::OrderedRows;

@@ -1,5 +1,5 @@
 use Rattle.std.proofs.Common.{◌≡◌}
-use Rattle.store_check_tests.proofs.merged.table_with.Given as goal
+use Rattle.checkpoint_writer_tests.proofs.pages.table_with.Given as goal
 
 abbrev pub invariant-loop-word : goal.invariant-loop-word
 invariant-loop-word g l = l.table.places ≡ l.initial.table.places

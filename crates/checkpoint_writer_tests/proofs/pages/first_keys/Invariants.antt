@@ -1,6 +1,6 @@
 use Rattle.std.proofs.Common.{◌≡◌, length}
 use Rattle.drda_disk.specs.Disk.{Stays}
-use Rattle.store_check_tests.proofs.merged.first_keys.Given as goal
+use Rattle.checkpoint_writer_tests.proofs.pages.first_keys.Given as goal
 
 abbrev pub invariant-loop-page : goal.invariant-loop-page
 invariant-loop-page g l = record {

@@ -2,7 +2,6 @@
 
 use drda_disk::{FuseDisk, MemDisk};
 use half_store::{Active, format, open};
-use row_pages::{PageCache, Pager};
 use std::alloc::{AllocError, Global};
 
 /// The bytes of a store.
@@ -29,26 +28,12 @@ pub fn numbers(asked: &str) -> [u64; 3] {
     numbers
 }
 
-/// A disk in memory that fails behind so many calls, with two pages of it that are kept.
-pub type Counted = Pager<FuseDisk<MemDisk>>;
-
-fn formatted(alloc: Global, disk: &mut MemDisk) -> Result<Active, AllocError> {
-    let is_made = format(alloc, disk, "TEST").is_ok();
-    match open(alloc, disk) {
-        Ok(active) if is_made => Ok(active),
-        _ => Err(AllocError),
-    }
-}
-
 /// An empty store as it is opened, whose device fails behind so many calls from now on.
-pub fn new_store(alloc: Global, calls: u64) -> Result<(Counted, Active), AllocError> {
-    let cache = PageCache::new(alloc, 2)?;
+pub fn new_store(alloc: Global, calls: u64) -> Result<(FuseDisk<MemDisk>, Active), AllocError> {
     let mut disk = MemDisk::new(alloc, STORE_BYTES)?;
-    match formatted(alloc, &mut disk) {
-        Ok(active) => {
-            let pager = Pager::over(FuseDisk::new(disk, calls, false), cache);
-            Ok((pager, active))
-        }
-        Err(_) => Err(AllocError),
+    let is_made = format(alloc, &mut disk, "TEST").is_ok();
+    match open(alloc, &mut disk) {
+        Ok(active) if is_made => Ok((FuseDisk::new(disk, calls, false), active)),
+        _ => Err(AllocError),
     }
 }

@@ -3,7 +3,7 @@ ghost use Rattle.std.specs.Prelude.{◌+◌, ◌≤◌, IfOk, IsTrue, length};
 ghost use Rattle.drda_disk.specs.Region.{end_of};
 ghost use Rattle.half_store.specs.Writing.{from_of, half_bytes_of};
 
-use crate::stores::STORE_BYTES;
+use crate::stores::{STORE_BYTES, new_store, numbers};
 use checkpoint_writer::{ImageError, finish_image};
 use drda_disk::{Disk, MemDisk, Region};
 use half_store::{Active, ImageWriter, begin_image, open};
@@ -49,38 +49,33 @@ fn one_page<D: Disk>(
     Ok(image)
 }
 
-/// Writes a page into the half that is not active, and behind it two records; then it is the active half, and so many bytes are held back.
-pub fn switched<D: Disk>(
+// Writes a page into the half that is not active, and behind it two records; then it is the active half, and so many bytes are held back.
+fn switched<D: Disk>(
     alloc: Global,
     disk: &mut D,
     active: &Active,
     held: usize,
 ) -> Result<(), ImageError> {
-    let image = one_page(alloc, disk, active)?;
     let records = two_records(alloc)?;
-    match finish_image(alloc, disk, image, active, 0, 0, &records, held) {
-        Ok(_) => Ok(()),
-        Err(error) => Err(error),
-    }
+    let image = one_page(alloc, disk, active)?;
+    finish_image(alloc, disk, image, active, 0, 0, &records, held)?;
+    Ok(())
 }
 
 /// The generation of the active half, its pages, how many records its journal has, and the lengths of the first two.
-pub type Found = (u64, u32, usize, [usize; 2]);
+type Found = (u64, u32, usize, [usize; 2]);
 
 const OLD: Found = (1, 0, 0, [0, 0]);
 
 const NEW: Found = (2, 1, 2, [3, 0]);
 
-// The generation of the active half, its pages and its journal's region.
-fn active_of(alloc: Global, disk: &mut MemDisk) -> Option<(u64, u32, Region)> {
-    match open(alloc, disk) {
-        Ok(active) => Some((active.generation, active.pages, active.region)),
-        Err(_) => None,
-    }
-}
-
-// How many records a journal has, and the lengths of the first two.
-fn records_of(alloc: Global, disk: &mut MemDisk, region: Region) -> Option<(usize, [usize; 2])> {
+// What a store has, if it is one.
+fn found(alloc: Global, disk: &mut MemDisk) -> Option<Found> {
+    let active = open(alloc, disk).ok()?;
+    let Ok(()) = disk.sync() else {
+        return None;
+    };
+    let region = active.region;
     if region.length == 0 || region.length > STORE_BYTES || !lies_on(region, disk.size()) {
         return None;
     }
@@ -89,21 +84,11 @@ fn records_of(alloc: Global, disk: &mut MemDisk, region: Region) -> Option<(usiz
     for (length, record) in lengths.iter_mut().zip(records.iter()) {
         *length = record.body.len();
     }
-    Some((records.len(), lengths))
+    Some((active.generation, active.pages, records.len(), lengths))
 }
 
-/// What a store has, if it is one.
-pub fn found(alloc: Global, disk: &mut MemDisk) -> Option<Found> {
-    let (generation, pages, region) = active_of(alloc, disk)?;
-    let Ok(()) = disk.sync() else {
-        return None;
-    };
-    let (count, lengths) = records_of(alloc, disk, region)?;
-    Some((generation, pages, count, lengths))
-}
-
-/// What a switch is told, and what is found then; or only that this is the old half or the new one.
-pub fn tell_found(
+// What a switch is told, and what is found then; or only that this is the old half or the new one.
+fn tell_found(
     done: Result<(), ImageError>,
     found: Option<Found>,
     may_be_either: bool,
@@ -113,4 +98,14 @@ pub fn tell_found(
         return writeln!(out, "  {done:?}, the old half or the new one");
     }
     writeln!(out, "  {done:?}, {found:?}")
+}
+
+/// Tells what comes of a switch over a device that fails behind so many calls, with so many bytes held back, and what a crash of a pick
+/// leaves then; in front of `either` only whether that is the old half or the new one.
+pub fn tell_switched(alloc: Global, asked: &str, out: &mut String) -> Result<(), AllocError> {
+    let [calls, held, pick] = numbers(asked);
+    let (mut disk, active) = new_store(alloc, calls)?;
+    let done = switched(alloc, &mut disk, &active, held as usize);
+    let found = found(alloc, &mut disk.into_inner().after_crash(pick));
+    tell_found(done, found, asked.ends_with("either"), out)
 }

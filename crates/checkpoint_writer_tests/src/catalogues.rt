@@ -2,7 +2,7 @@
 ghost use Rattle.std.specs.Prelude.{◌+◌, ◌≤◌, length};
 ghost use Rattle.half_store.specs.Writing.{from_of, half_bytes_of};
 
-use crate::first_byte::pair;
+use crate::keys::pair;
 use crate::stores::{Run, STORE_BYTES};
 use checkpoint_writer::{ImageError, StoredTable, TablePlace, read_catalogue, write_catalogue};
 use drda_disk::Disk;

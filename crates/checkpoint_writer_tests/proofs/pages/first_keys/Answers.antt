@@ -1,6 +1,6 @@
 use Rattle.std.proofs.Common.{[], ◌∷◌, ◌+◌, ◌*◌, ap, arith, length, length-append, ◌∙◌}
 use Rattle.drda_disk.proofs.Moments.{Stays-refl, Stays-trans}
-use Rattle.store_check_tests.proofs.merged.first_keys.Goals as goal
+use Rattle.checkpoint_writer_tests.proofs.pages.first_keys.Goals as goal
 
 pub loop-page-init : goal.loop-page-init
 loop-page-init g c = record { stays = Stays-refl _; count = ap length c.new-keys.ensures.items }
