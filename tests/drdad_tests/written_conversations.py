@@ -829,3 +829,31 @@ def large_store():
 
 
 large_store()
+
+
+def leaves_a_row(talk):
+    talk.opens(0)
+    talk.creates(0)
+    talk.changes(0, "INSERT INTO T VALUES (1, 'a')", 1, True)
+    talk.commits(0)
+    talk.changes(0, "INSERT INTO T VALUES (2, 'b')", 1, True)
+
+
+def finds_one_row(talk):
+    talk.opens(0)
+    talk.runs(0, "INSERT INTO T VALUES (1, 'c')", KEY_EXISTS)
+    talk.changes(0, "INSERT INTO T VALUES (2, 'c')", 1, True)
+    talk.commits(0)
+
+
+def runs_over_one_store():
+    """What was committed is there for the next run, and nothing else."""
+    runs = []
+    for said in leaves_a_row, finds_one_row:
+        talk = Talk()
+        said(talk)
+        runs.append((talk.sent, talk.answered, ""))
+    CONVERSATIONS.append(("runs-over-one-store", "fresh", runs))
+
+
+runs_over_one_store()

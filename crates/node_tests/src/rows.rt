@@ -3,10 +3,12 @@
 use crate::conversations::push_act;
 use crate::runs::{Bench, tell_opened, tell_run};
 use crate::spoiled::SpoiledDisk;
-use drda_disk::{FuseDisk, MemDisk};
+use crate::sweeps::tell_sweep;
+use drda_disk::{Disk, FuseDisk, MemDisk};
+use drda_node::{Node, Settings, open};
 use std::alloc::Global;
 use test_bytes::push_texts;
-use test_nodes::{fresh_store, node_over};
+use test_core::fresh_store;
 
 /// Writes down each line, and what it comes to; a blank line ends a section. None where a line asks for nothing that there is, and without
 /// memory.
@@ -18,6 +20,19 @@ pub fn follow(alloc: Global, text: &str, told: &mut String) -> Option<()> {
         told.push_str("\n").ok()?;
     }
     Some(())
+}
+
+// A node for ana with the password pw, over the store of a disk. None where the disk is no store, and without memory.
+fn node_over<D: Disk + Drop>(alloc: Global, disk: D) -> Option<Node<D>> {
+    let settings = Settings::new(alloc, "ana", "pw", "SHOP").ok()?;
+    let core = match open(alloc, disk) {
+        Ok(core) => core,
+        Err(_) => return None,
+    };
+    match Node::start(alloc, settings, core) {
+        Ok(node) => Some(node),
+        Err(_) => None,
+    }
 }
 
 // How many device calls the opening of a fresh store makes.
@@ -81,7 +96,8 @@ fn follow_lines(alloc: Global, node: &mut Bench, lines: &str, told: &mut String)
 }
 
 // A line that begins with # is a note. `event` and `times` append bytes of events. A number is a conversation's, which does what stands
-// behind it: its event comes at once. What else there is are runs over the events so far.
+// behind it: its event comes at once. `sweep` is a run over the events so far that is stopped at each of its last calls, and what else there
+// is are runs of the node over them.
 fn answer(
     alloc: Global,
     node: &mut Bench,
@@ -95,6 +111,7 @@ fn answer(
         "event" => return push_texts(events, &[rest]).ok(),
         "times" => return push_times(events, rest),
         "opened" => return tell_opened(node, told),
+        "sweep" => return tell_sweep(alloc, rest, events, told),
         "run" | "slow" | "fails" | "pieces" | "full" | "feed" => {}
         number => {
             let number = u8::try_from(number.parse::<usize>().ok()?).ok()?;

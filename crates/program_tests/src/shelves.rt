@@ -1,11 +1,12 @@
 //! Files in memory.
 
 use drda_disk::{Disk, FileFault, FuseDisk, MemDisk};
-use drda_program::StoreFiles;
+use drda_program::{Reader, StoreFiles, Writer};
 use std::alloc::Global;
 use std::io::{self, ErrorKind};
+use store_service::{RunEnd, run_store};
 use test_bytes::{ACCRDB, ACCSEC, EXCSAT_ALONE, RDBCMM, SECCHK_ALONE, push_texts, sentences};
-use test_nodes::{Node, fresh_store, node_of};
+use test_core::fresh_store;
 
 const TWO_MIB: usize = 2_097_152;
 
@@ -27,6 +28,9 @@ const INSERT: [&str; 2] = [
 /// UPDATE T SET V = 'x..x' WHERE K = 1, with 600 letters.
 const UPDATE: &str = "000A D051 0006 0004 200A 0287 D003 0006 0281 2414 00 00000277
     555044415445 20 54 20 534554 20 56 20 3D 20 27 78*600 27 20 5748455245 20 4B 20 3D 20 31 FF";
+
+/// No record of an event has more bytes.
+const MOST_IN_A_RECORD: usize = 65_536;
 
 /// So many of them take more than an eighth of a half of 1,040,384 bytes.
 const UPDATES: u64 = 250;
@@ -126,12 +130,51 @@ fn damaged(alloc: Global) -> Option<MemDisk> {
     Some(disk)
 }
 
+fn push_record(events: &mut Vec<u8>, kind: u8, number: u8, bytes: &[u8]) -> Option<()> {
+    let [a, b, c, d] = u32::try_from(bytes.len()).ok()?.to_be_bytes();
+    events.extend_from_slice(&[kind, number, a, b, c, d]).ok()?;
+    events.extend_from_slice(bytes).ok()
+}
+
+// Appends the records of a conversation of this number that opens and says these bytes.
+fn push_said(events: &mut Vec<u8>, number: u8, said: &[u8]) -> Option<()> {
+    push_record(events, 1, number, &[])?;
+    let mut left = said;
+    for _ in 0..said.len() {
+        if left.is_empty() {
+            break;
+        }
+        let (piece, others) = left.split_at(left.len().min(MOST_IN_A_RECORD));
+        push_record(events, 2, number, piece)?;
+        left = others;
+    }
+    Some(())
+}
+
+fn events_of(alloc: Global, before: &[u8], doubtful: &[u8]) -> Option<Vec<u8>> {
+    let mut events = Vec::new(alloc);
+    push_said(&mut events, 0, before)?;
+    push_said(&mut events, 1, doubtful)?;
+    Some(events)
+}
+
 // The store behind two conversations.
 fn in_doubt(alloc: Global, before: &[u8], doubtful: &[u8]) -> Option<MemDisk> {
-    let mut node = node_of(alloc)?;
-    let has_heard = hears(alloc, &mut node, before) && hears(alloc, &mut node, doubtful);
-    let disk = node.into_core().into_disk();
-    if has_heard { Some(disk) } else { None }
+    let events = events_of(alloc, before, doubtful)?;
+    behind(alloc, fresh_store(alloc), &events)
+}
+
+// A store behind these events. None where a run over them does not end well.
+fn behind(alloc: Global, store: Option<MemDisk>, events: &[u8]) -> Option<MemDisk> {
+    let store = store?;
+    let mut reader = Reader::new(events);
+    let mut writer = Writer::new(Vec::new(alloc));
+    let (disk, end) = run_store(alloc, store, "ana", "pw", &mut reader, &mut writer);
+    if end == Ok(RunEnd::Ended) {
+        Some(disk)
+    } else {
+        None
+    }
 }
 
 // A store of layout 1: its first half is the active one.
@@ -168,15 +211,4 @@ fn laden(alloc: Global) -> Option<MemDisk> {
         push_texts(&mut said, &[UPDATE, RDBCMM]).ok()?;
     }
     in_doubt(alloc, &said, &[])
-}
-
-// Whether a node opens a conversation, which says these bytes.
-fn hears(alloc: Global, node: &mut Node<MemDisk>, bytes: &[u8]) -> bool {
-    match node.open_conversation() {
-        Ok(id) if node.is_open(id) => {
-            let _ = node.feed(id, bytes, &mut Vec::new(alloc));
-            true
-        }
-        _ => false,
-    }
 }

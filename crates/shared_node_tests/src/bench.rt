@@ -5,11 +5,11 @@ use crate::locks::Locks;
 use core_calls::{Answer, CoreCall};
 use drda_disk::{FuseDisk, MemDisk};
 use durable_core::open;
-use half_store::format;
 use std::alloc::Global;
 use std::sync::Wait;
 use std::time::Clock;
 use test_calls::{Calls, Scripts, push_text};
+use test_core::fresh_store;
 use xa_calls::{InvalidRequest, Request};
 
 /// A core, books that are asked, and passes.
@@ -20,16 +20,6 @@ pub struct Bench<'r, R> {
     core: Option<Core>,
     desks: Desks,
     locks: Locks,
-}
-
-/// The least store.
-const TWO_MIB: usize = 2_097_152;
-
-// A disk with a fresh store of the name SHOP.
-fn fresh_store(alloc: Global) -> Option<MemDisk> {
-    let mut disk = MemDisk::new(alloc, TWO_MIB).ok()?;
-    format(alloc, &mut disk, "SHOP").ok()?;
-    Some(disk)
 }
 
 // A core over a fresh store, whose device fails behind so many calls.

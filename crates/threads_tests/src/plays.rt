@@ -15,7 +15,7 @@ use std::marker::{Brand, Sync};
 use std::sync::Wait;
 use std::thread::{Threads, yield_now};
 use std::time::Clock;
-use test_nodes::fresh_store;
+use test_core::fresh_store;
 
 /// A disk in memory that may stand in its syncs.
 pub type Stood<'r> = StandingDisk<'r, MemDisk>;

@@ -1,14 +1,13 @@
-//! A store in memory, and nodes over it one after the other.
+//! A store in memory, and runs over it one after the other.
 
 use counted_streams::{Reader, Writer};
 use drda_disk::MemDisk;
-use drda_node::{RunEnd, run};
-use half_store::format;
 use std::alloc::Global;
+use store_service::{OpenError, RunEnd, run_store};
 use test_bytes::push_texts;
-use test_nodes::node_over;
+use test_core::{fresh_store, store_of};
 
-/// The least store.
+/// The size of the least store.
 const TWO_MIB: usize = 2_097_152;
 
 /// A little more than 64 MiB.
@@ -16,17 +15,17 @@ const LARGE: usize = 67_117_056;
 
 /// A store, what is still to come in over it, and all that was written so far.
 #[derive(Drop)]
-pub struct Bench {
+pub struct Store {
     alloc: Global,
     disk: Option<MemDisk>,
     sent: Vec<u8>,
     written: Vec<u8>,
 }
 
-impl Bench {
+impl Store {
     /// No store, and nothing that comes in.
-    pub fn new(alloc: Global) -> Bench {
-        Bench {
+    pub fn new(alloc: Global) -> Store {
+        Store {
             alloc,
             disk: None,
             sent: Vec::new(alloc),
@@ -47,13 +46,14 @@ impl Bench {
         Some(())
     }
 
-    // `fresh` and `large` make a store of that size. `run` is a run of a node over the bytes so far. `loses` and `keeps` leave of
-    // the store what a crash leaves, without and with the writes that were not synced; `tears` some of them. A name, behind
-    // #, is written down, and all else is bytes.
+    // `bare` makes a disk that is no store, `fresh` and `large` a store of that size. `run` is a run over the bytes so far. `loses` and
+    // `keeps` leave of the store what a crash leaves, without and with the writes that were not synced; `tears` some of them. A name,
+    // behind #, is written down, and all else is bytes.
     fn take(&mut self, word: &str) -> Option<()> {
         match word {
-            "fresh" => self.make(TWO_MIB),
-            "large" => self.make(LARGE),
+            "bare" => self.make(MemDisk::new(self.alloc, TWO_MIB).ok()),
+            "fresh" => self.make(fresh_store(self.alloc)),
+            "large" => self.make(store_of(self.alloc, LARGE)),
             "run" => self.answer(),
             "loses" => self.crash(0),
             "keeps" => self.crash(1),
@@ -63,10 +63,8 @@ impl Bench {
         }
     }
 
-    fn make(&mut self, size: usize) -> Option<()> {
-        let mut disk = MemDisk::new(self.alloc, size).ok()?;
-        format(self.alloc, &mut disk, "SHOP").ok()?;
-        self.disk = Some(disk);
+    fn make(&mut self, disk: Option<MemDisk>) -> Option<()> {
+        self.disk = Some(disk?);
         Some(())
     }
 
@@ -76,22 +74,22 @@ impl Bench {
         Some(())
     }
 
-    fn note(&mut self, name: &str) -> Option<()> {
-        self.written.extend_from_slice(name.as_bytes()).ok()?;
+    fn note(&mut self, line: &str) -> Option<()> {
+        self.written.extend_from_slice(line.as_bytes()).ok()?;
         self.written.push(b'\n').ok()
     }
 
     fn answer(&mut self) -> Option<()> {
         let disk = self.disk.take()?;
-        let mut node = node_over(self.alloc, disk)?;
         let mut reader = Reader::new(self.sent.as_slice());
         let mut writer = Writer::new(Vec::new(self.alloc));
-        let end = run(self.alloc, &mut node, &mut reader, &mut writer);
+        let (disk, end) = run_store(self.alloc, disk, "ana", "pw", &mut reader, &mut writer);
+        self.disk = Some(disk);
         self.written.extend_from_slice(&writer.into_inner()).ok()?;
         self.sent.clear();
-        self.disk = Some(node.into_core().into_disk());
         match end {
-            RunEnd::Ended => Some(()),
+            Ok(RunEnd::Ended) => Some(()),
+            Err(OpenError::NotAStore) => self.note("not a store"),
             _ => None,
         }
     }
