@@ -11,7 +11,7 @@ use tables::TableView;
 use test_calls::{Calls, Scripts, push_text, xid_of};
 use test_core::Unpaged;
 use unit_records::{GroupCall, GroupError, Phase};
-use xa_calls::{InvalidRequest, Request, Xid};
+use xa_calls::Xid;
 use xa_manager::{BranchState, Decision};
 
 /// A core whose tables have no pages.
@@ -122,26 +122,6 @@ impl Bench {
 impl Calls for Bench {
     fn step(&mut self, conversation: u64, call: &CoreCall<'_, '_, '_>) -> Option<Answer> {
         Some(self.core.step(conversation, call))
-    }
-
-    fn commit(&mut self, conversation: u64) -> Option<Answer> {
-        Some(self.core.commit(conversation))
-    }
-
-    fn roll_back(&mut self, conversation: u64) -> Option<Answer> {
-        Some(self.core.roll_back(conversation))
-    }
-
-    fn lost(&mut self, conversation: u64) -> Option<Answer> {
-        Some(self.core.lost(conversation))
-    }
-
-    fn xa(
-        &mut self,
-        conversation: u64,
-        request: Result<Request, InvalidRequest>,
-    ) -> Option<Answer> {
-        Some(self.core.xa(conversation, &request))
     }
 
     // `fresh` is a core without tables. `look` shows the rows of T, the units that have work, and the branches; `branches` those alone, and

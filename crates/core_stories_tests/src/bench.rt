@@ -126,26 +126,6 @@ impl Calls for Bench {
         }
     }
 
-    fn commit(&mut self, conversation: u64) -> Option<Answer> {
-        Some(self.core.commit(conversation))
-    }
-
-    fn roll_back(&mut self, conversation: u64) -> Option<Answer> {
-        Some(self.core.roll_back(conversation))
-    }
-
-    fn lost(&mut self, conversation: u64) -> Option<Answer> {
-        Some(self.core.lost(conversation))
-    }
-
-    fn xa(
-        &mut self,
-        conversation: u64,
-        request: Result<Request, InvalidRequest>,
-    ) -> Option<Answer> {
-        Some(self.core.xa(conversation, &request))
-    }
-
     // `sync` has the number of a conversation behind it, and then a SYNCTYPE, XAFLAGS and XID data; `decide` XID data, and `commit` or
     // `rollback`.
     fn do_other(

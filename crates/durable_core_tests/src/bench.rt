@@ -1,6 +1,5 @@
 //! A disk, or a store that is open on one, and what is done to it.
 
-use crate::asked::{Asked, ask};
 use crate::told::{tell, told_refusal};
 use crate::worn::WornDisk;
 use core_calls::{Answer, CoreCall};
@@ -10,7 +9,6 @@ use half_store::format;
 use std::alloc::Global;
 use test_bytes::bytes_of;
 use test_calls::{Calls, Scripts, push_text};
-use xa_calls::{InvalidRequest, Request};
 
 // A disk in memory that may fail or wear out.
 type Device = WornDisk<FuseDisk<MemDisk>>;
@@ -137,18 +135,18 @@ impl Bench {
     }
 
     // What a call was answered. A checkpoint stands behind it where one is to.
-    fn answered(&mut self, answer: Option<Answer>) -> Option<Answer> {
+    fn answered(&mut self, answer: Answer) -> Option<Answer> {
         self.since = self.since.saturating_add(1);
         match self.every {
             Some(every) if self.since >= every => {}
-            _ => return answer,
+            _ => return Some(answer),
         }
         self.since = 0;
         let Some(core) = &mut self.core else {
             return None;
         };
         match core.checkpoint() {
-            Checkpointed::Done => answer,
+            Checkpointed::Done => Some(answer),
             _ => None,
         }
     }
@@ -180,34 +178,10 @@ impl Calls for Bench {
         let Some(core) = &mut self.core else {
             return None;
         };
-        let answer = core.step(conversation, call);
-        self.answered(Some(answer))
-    }
-
-    fn commit(&mut self, conversation: u64) -> Option<Answer> {
-        let answer = ask(self.alloc, &mut self.core, conversation, Asked::Commit);
-        self.answered(answer)
-    }
-
-    fn roll_back(&mut self, conversation: u64) -> Option<Answer> {
-        let answer = ask(self.alloc, &mut self.core, conversation, Asked::RollBack);
-        self.answered(answer)
-    }
-
-    fn lost(&mut self, conversation: u64) -> Option<Answer> {
-        let Some(core) = &mut self.core else {
-            return None;
+        let answer = match call {
+            CoreCall::Lost => core.lost(conversation),
+            _ => core.step(conversation, call),
         };
-        let answer = core.lost(conversation);
-        self.answered(Some(answer))
-    }
-
-    fn xa(
-        &mut self,
-        conversation: u64,
-        request: Result<Request, InvalidRequest>,
-    ) -> Option<Answer> {
-        let answer = ask(self.alloc, &mut self.core, conversation, Asked::Xa(request));
         self.answered(answer)
     }
 

@@ -2,7 +2,6 @@
 //! damaged ones. What each line of standard input comes to goes to standard output, which is compared.
 #![tactic(auto)]
 
-mod asked;
 mod bench;
 mod told;
 mod worn;

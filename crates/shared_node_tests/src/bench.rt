@@ -10,7 +10,6 @@ use std::sync::Wait;
 use std::time::Clock;
 use test_calls::{Calls, Scripts, push_text};
 use test_core::fresh_store;
-use xa_calls::{InvalidRequest, Request};
 
 /// A core, books that are asked, and passes.
 #[derive(Drop)]
@@ -74,26 +73,6 @@ impl<'r, R: Wait + Clock> Bench<'r, R> {
 impl<'r, R: Wait + Clock> Calls for Bench<'r, R> {
     fn step(&mut self, conversation: u64, call: &CoreCall<'_, '_, '_>) -> Option<Answer> {
         self.desks.ask(conversation, call)
-    }
-
-    fn commit(&mut self, conversation: u64) -> Option<Answer> {
-        self.desks.ask(conversation, &CoreCall::Commit)
-    }
-
-    fn roll_back(&mut self, conversation: u64) -> Option<Answer> {
-        self.desks.ask(conversation, &CoreCall::RollBack)
-    }
-
-    fn lost(&mut self, conversation: u64) -> Option<Answer> {
-        self.desks.ask(conversation, &CoreCall::Lost)
-    }
-
-    fn xa(
-        &mut self,
-        conversation: u64,
-        request: Result<Request, InvalidRequest>,
-    ) -> Option<Answer> {
-        self.desks.ask_xa(conversation, Some(request))
     }
 
     // `fresh` is a core over a fresh store, `stops N` one whose device fails behind so many calls more, and `core` that of the book; `book`

@@ -1,12 +1,10 @@
 //! Calls that are made together, and what is collected of them.
 
 use crate::books::{Desks, place_of};
-use core_calls::{Answer, CoreCall};
-use sql_text::{SqlError, Statement, parse};
+use core_calls::Answer;
 use std::alloc::Global;
 use test_calls::{push_answer, push_text, xid_of};
 use unit_records::{Asked, Phase};
-use xa_calls::{InvalidRequest, Request};
 use xa_manager::Decision;
 
 // The phase of two-phase commit that a word names.
@@ -29,29 +27,7 @@ fn wish_in(alloc: Global, rest: &str) -> Option<(u64, Asked)> {
     Some((number.parse::<u64>().ok()?, wished))
 }
 
-fn parsed<'a>(alloc: Global, text: &'a str) -> Result<Statement<'a>, SqlError> {
-    parse(alloc, text)
-}
-
 impl Desks {
-    /// What the book answers to an XA call, or to a query. A function that makes a call and holds no statement gets no proof, so this
-    /// one holds one.
-    pub fn ask_xa(
-        &mut self,
-        number: u64,
-        request: Option<Result<Request, InvalidRequest>>,
-    ) -> Option<Answer> {
-        let statement = parsed(self.alloc, "SELECT K FROM T").ok()?;
-        let call = match request {
-            Some(request) => CoreCall::Xa(request),
-            None => CoreCall::Query {
-                statement: &statement,
-                parameters: &[],
-            },
-        };
-        self.ask(number, &call)
-    }
-
     // The conversation of the pass of this number has a wish.
     fn wish(&mut self, number: u64, wished: Asked) -> Option<()> {
         let Some(Some(pass)) = self.passes.get(place_of(number)?) else {

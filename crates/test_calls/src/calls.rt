@@ -11,17 +11,8 @@ use xa_calls::{InvalidRequest, Request};
 
 /// Who is asked.
 pub trait Calls {
-    /// A statement is run, evaluated or described.
+    /// A call is made.
     fn step(&mut self, conversation: u64, call: &CoreCall<'_, '_, '_>) -> Option<Answer>;
-
-    fn commit(&mut self, conversation: u64) -> Option<Answer>;
-
-    fn roll_back(&mut self, conversation: u64) -> Option<Answer>;
-
-    /// The conversation is lost.
-    fn lost(&mut self, conversation: u64) -> Option<Answer>;
-
-    fn xa(&mut self, conversation: u64, request: Result<Request, InvalidRequest>) -> Option<Answer>;
 
     /// Does what a line asks for that is no call, and appends what it came to. None where it asks for nothing that there is, and
     /// without memory.
@@ -46,33 +37,59 @@ fn parsed<'a>(alloc: Global, text: &'a str) -> Result<Statement<'a>, SqlError> {
     parse(alloc, text)
 }
 
-// It alone holds a statement, since a function that does so is dear to prove.
+/// What is asked, with a statement or without one.
+#[derive(Clone, Copy)]
+enum Asked {
+    Run,
+    Query,
+    Describe(Side),
+    Commit,
+    RollBack,
+    Lost,
+    Xa(Result<Request, InvalidRequest>),
+}
+
+// `run`, `query`, `columns` and `parameters` have a statement behind them, `commit`, `rollback` and `lost` nothing. All else is an XA call.
+fn asked_by(alloc: Global, verb: &str, rest: &str) -> Option<Asked> {
+    match (verb, rest.is_empty()) {
+        ("commit", true) => Some(Asked::Commit),
+        ("rollback", true) => Some(Asked::RollBack),
+        ("lost", true) => Some(Asked::Lost),
+        ("run", _) => Some(Asked::Run),
+        ("query", _) => Some(Asked::Query),
+        ("columns", _) => Some(Asked::Describe(Side::Output)),
+        ("parameters", _) => Some(Asked::Describe(Side::Input)),
+        _ => Some(Asked::Xa(request_of(alloc, verb, rest)?)),
+    }
+}
+
+// It alone holds a statement, since a function that does so is dear to prove, and one that makes a call and holds none gets no proof.
 fn ask_statement<C: Calls>(
     alloc: Global,
     core: &mut C,
     conversation: u64,
-    verb: &str,
+    asked: Asked,
     text: &str,
     parameters: &[Value<'_>],
 ) -> Option<Answer> {
     let statement = parsed(alloc, text).ok()?;
-    let call = match verb {
-        "run" => CoreCall::Run {
+    let call = match asked {
+        Asked::Run => CoreCall::Run {
             statement: &statement,
             parameters,
         },
-        "query" => CoreCall::Query {
+        Asked::Query => CoreCall::Query {
             statement: &statement,
             parameters,
         },
-        "columns" => CoreCall::Describe {
+        Asked::Describe(side) => CoreCall::Describe {
             statement: &statement,
-            side: Side::Output,
+            side,
         },
-        _ => CoreCall::Describe {
-            statement: &statement,
-            side: Side::Input,
-        },
+        Asked::Commit => CoreCall::Commit,
+        Asked::RollBack => CoreCall::RollBack,
+        Asked::Lost => CoreCall::Lost,
+        Asked::Xa(request) => CoreCall::Xa(request),
     };
     core.step(conversation, &call)
 }
@@ -82,17 +99,19 @@ fn ask_text<C: Calls>(
     alloc: Global,
     core: &mut C,
     conversation: u64,
-    verb: &str,
-    asked: &str,
+    asked: Asked,
+    text: &str,
 ) -> Option<Answer> {
-    let (text, values) = asked.split_once(" |").unwrap_or((asked, ""));
+    let (text, values) = text.split_once(" |").unwrap_or((text, ""));
     let words = words_of(alloc, values)?;
     let cells = cells_of(alloc, &words)?;
     let values = values_of(alloc, &cells)?;
-    ask_statement(alloc, core, conversation, verb, text, &values)
+    ask_statement(alloc, core, conversation, asked, text, &values)
 }
 
-// `run`, `query`, `columns` and `parameters` have a statement behind them, `commit`, `rollback` and `lost` nothing. All else is an XA call.
+/// What stands in the place of a statement where none is asked.
+const NO_STATEMENT: &str = "SELECT K FROM T";
+
 pub(crate) fn ask<C: Calls>(
     alloc: Global,
     core: &mut C,
@@ -100,13 +119,10 @@ pub(crate) fn ask<C: Calls>(
     verb: &str,
     rest: &str,
 ) -> Option<Answer> {
-    match (verb, rest.is_empty()) {
-        ("commit", true) => core.commit(conversation),
-        ("rollback", true) => core.roll_back(conversation),
-        ("lost", true) => core.lost(conversation),
-        ("run" | "query" | "columns" | "parameters", _) => {
-            ask_text(alloc, core, conversation, verb, rest)
-        }
-        _ => core.xa(conversation, request_of(alloc, verb, rest)?),
-    }
+    let asked = asked_by(alloc, verb, rest)?;
+    let text = match asked {
+        Asked::Run | Asked::Query | Asked::Describe(_) => rest,
+        _ => NO_STATEMENT,
+    };
+    ask_text(alloc, core, conversation, asked, text)
 }

@@ -1,5 +1,0 @@
--- The tables still have no pages.
-use Rattle.core_scripts_tests.proofs.bench.BenchCalls.commit.Goals as goal
-
-pub invariant_of-self : goal.invariant_of-self
-invariant_of-self c = c.commit.ensures.pages.inside 0 c.self.invariant
