@@ -63,7 +63,7 @@ fn asked_by(alloc: Global, verb: &str, rest: &str) -> Option<Asked> {
     }
 }
 
-// It alone holds a statement, since a function that does so is dear to prove, and one that makes a call and holds none gets no proof.
+// A function that holds a statement is dear to prove.
 fn ask_statement<C: Calls>(
     alloc: Global,
     core: &mut C,
@@ -78,18 +78,35 @@ fn ask_statement<C: Calls>(
             statement: &statement,
             parameters,
         },
-        Asked::Query => CoreCall::Query {
-            statement: &statement,
-            parameters,
-        },
         Asked::Describe(side) => CoreCall::Describe {
             statement: &statement,
             side,
         },
+        _ => CoreCall::Query {
+            statement: &statement,
+            parameters,
+        },
+    };
+    core.step(conversation, &call)
+}
+
+// One that makes a call and holds none gets no proof, so this one holds one.
+fn ask_bare<C: Calls>(
+    alloc: Global,
+    core: &mut C,
+    conversation: u64,
+    asked: Asked,
+) -> Option<Answer> {
+    let statement = parsed(alloc, "SELECT K FROM T").ok()?;
+    let call = match asked {
         Asked::Commit => CoreCall::Commit,
         Asked::RollBack => CoreCall::RollBack,
         Asked::Lost => CoreCall::Lost,
         Asked::Xa(request) => CoreCall::Xa(request),
+        _ => CoreCall::Query {
+            statement: &statement,
+            parameters: &[],
+        },
     };
     core.step(conversation, &call)
 }
@@ -109,9 +126,6 @@ fn ask_text<C: Calls>(
     ask_statement(alloc, core, conversation, asked, text, &values)
 }
 
-/// What stands in the place of a statement where none is asked.
-const NO_STATEMENT: &str = "SELECT K FROM T";
-
 pub(crate) fn ask<C: Calls>(
     alloc: Global,
     core: &mut C,
@@ -120,9 +134,10 @@ pub(crate) fn ask<C: Calls>(
     rest: &str,
 ) -> Option<Answer> {
     let asked = asked_by(alloc, verb, rest)?;
-    let text = match asked {
-        Asked::Run | Asked::Query | Asked::Describe(_) => rest,
-        _ => NO_STATEMENT,
-    };
-    ask_text(alloc, core, conversation, asked, text)
+    match asked {
+        Asked::Run | Asked::Query | Asked::Describe(_) => {
+            ask_text(alloc, core, conversation, asked, rest)
+        }
+        _ => ask_bare(alloc, core, conversation, asked),
+    }
 }

@@ -15,25 +15,42 @@ mod talks;
 use crate::boards::Board;
 use crate::plays::House;
 use crate::rows::Rows;
+use std::alloc::Global;
 use std::io::{self, Write};
+use std::marker::Sync;
 use std::process::ExitCode;
+use std::sync::Wait;
+use std::thread::Threads;
+use std::time::Clock;
 
 fn main(rt: HostRuntime) -> ExitCode {
     let Ok(text) = io::read_to_string(rt.alloc(), rt.stdin()) else {
         return ExitCode::from(1);
     };
     let board = Board::new(rt.alloc());
-    let mut rows = Rows::new(House {
-        rt: &rt,
-        files: rt,
-        alloc: rt.alloc(),
-        board: &board,
-    });
-    let is_done = rows.follow(&text).is_some();
-    match tell(&rt, rows.written()) {
+    let (written, is_done) = answered(&rt, rt, rt.alloc(), &board, &text);
+    match tell(&rt, &written) {
         Ok(()) if is_done => ExitCode::from(0),
         _ => ExitCode::from(1),
     }
+}
+
+// What the lines came to, and whether there was an answer to each.
+fn answered<R: Threads + Wait + Clock + Sync>(
+    rt: &R,
+    files: HostRuntime,
+    alloc: Global,
+    board: &Board,
+    text: &str,
+) -> (Vec<u8>, bool) {
+    let mut rows = Rows::new(House {
+        rt,
+        files,
+        alloc,
+        board,
+    });
+    let is_done = rows.follow(text).is_some();
+    (rows.into_written(), is_done)
 }
 
 // Writes what the lines came to.

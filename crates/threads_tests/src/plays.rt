@@ -170,11 +170,11 @@ fn serve<'r, R: Threads + Wait + Clock + Sync>(
     callers: &mut Callers<'_>,
 ) -> Option<(Book<Stood<'r>>, bool)> {
     let alloc = house.alloc;
+    let settings = Settings::new(alloc, "ana", "pw", "SHOP").ok()?;
     let shared: Shared<Stood<'r>, Brand> = match Shared::new(alloc, core, u64::MAX) {
         Ok(shared) => shared,
         Err(_) => return None,
     };
-    let settings = Settings::new(alloc, "ana", "pw", "SHOP").ok()?;
     let failure = Failure::new(false);
     let rules = Rules {
         login: 3_600,
@@ -186,12 +186,16 @@ fn serve<'r, R: Threads + Wait + Clock + Sync>(
         rt: house.rt,
         board: house.board,
     };
-    serve_streams(
+    let served = serve_streams(
         &rt, alloc, &shared, &settings, stage, &Silent, rules, callers,
-    )
-    .ok()?;
-    match shared.close(Vec::new(alloc)) {
-        Ok(book) => Some((book, true)),
-        Err(book) => Some((book, false)),
+    );
+    let (book, is_idle) = match shared.close(Vec::new(alloc)) {
+        Ok(book) => (book, true),
+        Err(book) => (book, false),
+    };
+    if served.is_ok() {
+        Some((book, is_idle))
+    } else {
+        None
     }
 }

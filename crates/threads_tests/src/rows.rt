@@ -92,8 +92,8 @@ impl<'r, R: Threads + Wait + Clock + Sync> Rows<'r, R> {
     }
 
     /// Each line, and what it came to.
-    pub fn written(&self) -> &[u8] {
-        &self.written
+    pub fn into_written(self) -> Vec<u8> {
+        self.written
     }
 
     /// Does what each line asks for that is not empty and does not begin with #. None where a line asks for nothing that there is, and
@@ -116,10 +116,7 @@ impl<'r, R: Threads + Wait + Clock + Sync> Rows<'r, R> {
     fn answer(&mut self, verb: &str, rest: &str) -> Option<()> {
         match verb {
             "name" => self.lay_name(rest),
-            "fresh" => {
-                self.core = Some(self.house.fresh_core()?);
-                Some(())
-            }
+            "fresh" => self.begin(),
             "talks" => self.lay_talks(rest),
             "cue" => self.cues.push(cue_of(rest)?).ok(),
             "order" => push_order(&mut self.cues, rest),
@@ -133,8 +130,19 @@ impl<'r, R: Threads + Wait + Clock + Sync> Rows<'r, R> {
     fn crash(&mut self, pick: &str) -> Option<()> {
         let pick = pick.parse::<u64>().ok()?;
         let core = self.core.take()?;
-        self.core = Some(self.house.crashed(core, pick)?);
-        Some(())
+        let crashed = self.house.crashed(core, pick);
+        self.hold(crashed)
+    }
+
+    fn begin(&mut self) -> Option<()> {
+        let core = self.house.fresh_core();
+        self.hold(core)
+    }
+
+    // It alone puts a core in the place of one.
+    fn hold(&mut self, core: Option<Core<'r>>) -> Option<()> {
+        self.core = core;
+        if self.core.is_some() { Some(()) } else { None }
     }
 
     fn lay_name(&mut self, rest: &str) -> Option<()> {
@@ -167,7 +175,7 @@ impl<'r, R: Threads + Wait + Clock + Sync> Rows<'r, R> {
             is_crowd,
         };
         let (left, core) = play(&self.house, core, script)?;
-        self.core = Some(core);
+        self.hold(Some(core))?;
         self.tell(left)?;
         self.cues.clear();
         self.stands.clear();
