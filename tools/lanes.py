@@ -1,8 +1,8 @@
 """A model of the gate: how `rt ci` lays proofs, tests and edits into lanes, and how long that takes on idle processors. What it reads:
 crates.txt, the lines of each crate, its edits under must-fail/, and tools/gate_seconds.json, the processor seconds of each crate's
-proof, of the proof of its tests, and of one edit, as a run was sampled (tools/gate_table). rt starts a task of the longest chain of
-lines behind it first, where a processor is idle and memory is left by its own estimate. A crate whose edits are tried is proved once
-more for them, and an edit that is proved back costs as much as one that is tried."""
+proof, of the proof of its tests, of one edit, and of the proof that its edits are tried over, as a run was sampled (tools/gate_table).
+rt starts a task of the longest chain of lines behind it first, where a processor is idle and memory is left by its own estimate. One
+edit alone is tried from nothing."""
 import glob, json
 
 from crates import TOP, crates_now, edits_in
@@ -48,13 +48,14 @@ def tasks(seconds, tried, left=(), kept=()):
     proofs = {crate: lines(crate, ".antt") for crate in deps}
     made = {}
     for crate in sorted(deps, key=lambda it: len(below[it])):
-        proof, tests, edit = (0, 0, 0) if crate in kept else seconds.get(crate, [20 + code[crate] / 6, 0, 15])
+        guess = 20 + code[crate] / 6
+        proof, tests, edit, seed = (0, 0, 0, 0) if crate in kept else seconds.get(crate, [guess, 0, 15, guess])
         edits = len(edits_in(f"{TOP}/crates/{crate}/must-fail")[0]) if crate in tried else 0
         size = 1 + code[crate] / 1000 + proofs[crate] / 5000 + sum(code[it] for it in below[crate]) * 8e-5
         waits = [(it, PROOF) for it in below[crate]]
         made[crate, PROOF] = waits, code[crate], proof, size
         made[crate, TESTS] = waits, code[crate] if tests else 0, tests, size
-        cost = 0 if not edits else proof if edits == 1 else proof + (edits + 1) * edit
+        cost = 0 if not edits else seed if edits == 1 else seed + edits * edit
         made[crate, EDITS] = [(crate, PROOF), (crate, TESTS)], code[crate] if edits else 0, cost, size
     return made
 
