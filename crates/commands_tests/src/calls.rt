@@ -32,7 +32,9 @@ pub fn lent(alloc: Global, text: &str) -> (usize, usize) {
         statement: &statement,
         parameters: &parameters,
     };
-    counts(&call)
+    let counted = counts(&call);
+    drop(statement);
+    counted
 }
 
 /// Tells how many markers and parameters calls bring that have no statement.

@@ -3,7 +3,7 @@ use crate::changes::Step;
 use crate::held::Held;
 use crate::stores::{apply, commit, new_store, open_held, plain_of, shows, written};
 use checkpoint_writer::ImageError;
-use drda_disk::Full;
+use drda_disk::{Full, MemDisk};
 use row_pages::{PageCache, Pager};
 use std::alloc::Global;
 use std::test::Fail;
@@ -40,25 +40,50 @@ const STORY: [&'static [Step]; 7] = [
     ],
 ];
 
-// Goes through the story; whether the tables show the same as plain ones at each of its points: changed,
-// over their new pages, and opened again.
-fn is_told(alloc: Global, cached: usize) -> Result<Option<usize>, Fail> {
+fn opened(alloc: Global, disk: MemDisk, cached: usize) -> Result<Held<MemDisk>, Fail> {
+    let cache = PageCache::new(alloc, cached.max(1))?;
+    Ok(Held::open(alloc, Pager::over(disk, cache))?)
+}
+
+// Makes changes, and two checkpoints behind them; whether the tables show the same as plain ones when they are changed and over
+// their new pages.
+fn is_kept(
+    alloc: Global,
+    held: &mut Held<MemDisk>,
+    plain: &mut PlainView,
+    steps: &[Step],
+) -> Result<bool, Fail> {
+    commit(alloc, held, steps)?;
+    apply(alloc, plain, steps)?;
+    let is_changed = shows(alloc, held, plain)?;
+    held.checkpoint(alloc, 0)?;
+    let is_written = shows(alloc, held, plain)?;
+    held.checkpoint(alloc, 100)?;
+    Ok(is_changed && is_written)
+}
+
+// The same over a store that is opened, and its disk then.
+fn reopened(
+    alloc: Global,
+    (disk, cached): (MemDisk, usize),
+    plain: &mut PlainView,
+    steps: &[Step],
+) -> Result<(bool, MemDisk), Fail> {
+    let mut held = opened(alloc, disk, cached)?;
+    let is_so = is_kept(alloc, &mut held, plain, steps)?;
+    Ok((is_so, held.into_disk()))
+}
+
+// Goes through the story, up to the first point at which the tables do not show the same as plain ones.
+fn differs_at(alloc: Global, cached: usize) -> Result<Option<usize>, Fail> {
     let mut plain = PlainView::new(alloc);
     let mut disk = new_store(alloc)?;
     for (point, steps) in STORY.iter().enumerate() {
-        let cache = PageCache::new(alloc, cached.max(1))?;
-        let mut held = Held::open(alloc, Pager::over(disk, cache))?;
-        commit(alloc, &mut held, steps)?;
-        apply(alloc, &mut plain, steps)?;
-        if !shows(alloc, &mut held, &mut plain)? {
+        let (is_so, then) = reopened(alloc, (disk, cached), &mut plain, steps)?;
+        if !is_so {
             return Ok(Some(point));
         }
-        held.checkpoint(alloc, 0)?;
-        if !shows(alloc, &mut held, &mut plain)? {
-            return Ok(Some(point));
-        }
-        held.checkpoint(alloc, 100)?;
-        disk = held.into_disk();
+        disk = then;
     }
     Ok(None)
 }
@@ -66,7 +91,7 @@ fn is_told(alloc: Global, cached: usize) -> Result<Option<usize>, Fail> {
 #[test]
 fn checkpoints_show_the_same_tables(rt: HostRuntime) -> Result<(), Fail> {
     for cached in [1_usize, 64] {
-        assert!(rt; is_told(rt.alloc(), cached)?.is_none(), "{cached}");
+        assert!(rt; differs_at(rt.alloc(), cached)?.is_none(), "{cached}");
     }
     Ok(())
 }
@@ -84,8 +109,30 @@ const MANY: [Step; 1] = [Step::Put("A", (0, 520, 2_000))];
 
 const FEW: [Step; 2] = [Step::Create("A"), Step::Put("A", (0, 3, 2_000))];
 
-// What is told of a checkpoint of these rows more, at this generation, with so many bytes held back; and
-// whether the tables show the same then, over the same pages and opened again.
+// What is told of a checkpoint of these rows more, at this generation, with so many bytes held back; and whether the tables show the
+// same then over the same pages.
+fn tried(
+    alloc: Global,
+    held: &mut Held<MemDisk>,
+    more: &[Step],
+    (generation, held_back): (Option<u64>, usize),
+) -> Result<(Option<ImageError>, bool), Fail> {
+    let mut after = plain_of(alloc, &FEW)?;
+    apply(alloc, &mut after, more)?;
+    commit(alloc, held, more)?;
+    if let Some(generation) = generation {
+        held.age(generation);
+    }
+    let told = held.checkpoint(alloc, held_back).err();
+    Ok((told, shows(alloc, held, &mut after)?))
+}
+
+fn shows_few(alloc: Global, disk: MemDisk) -> Result<bool, Fail> {
+    let mut held = open_held(alloc, disk)?;
+    shows(alloc, &mut held, &mut plain_of(alloc, &FEW)?)
+}
+
+// The same, and whether they are there when the store is opened again.
 fn refused(
     alloc: Global,
     more: &[Step],
@@ -93,17 +140,8 @@ fn refused(
     held_back: usize,
 ) -> Result<(Option<ImageError>, bool), Fail> {
     let mut held = open_held(alloc, written(alloc, &FEW)?)?;
-    let mut before = plain_of(alloc, &FEW)?;
-    let mut after = plain_of(alloc, &FEW)?;
-    apply(alloc, &mut after, more)?;
-    commit(alloc, &mut held, more)?;
-    if let Some(generation) = generation {
-        held.age(generation);
-    }
-    let told = held.checkpoint(alloc, held_back).err();
-    let is_kept = shows(alloc, &mut held, &mut after)?;
-    let mut again = open_held(alloc, held.into_disk())?;
-    Ok((told, is_kept && shows(alloc, &mut again, &mut before)?))
+    let (told, is_kept) = tried(alloc, &mut held, more, (generation, held_back))?;
+    Ok((told, shows_few(alloc, held.into_disk())? && is_kept))
 }
 
 #[test]

@@ -30,7 +30,8 @@ fn core_with(alloc: Global, calls: u64) -> Option<Core> {
 }
 
 // The same, whose device fails behind so many calls more than those of the opening.
-fn core_that_stops(alloc: Global, calls: u64) -> Option<Core> {
+fn core_that_stops(alloc: Global, calls: &str) -> Option<Core> {
+    let calls = calls.parse::<u64>().ok()?;
     let opening = core_with(alloc, u64::MAX)?.into_disk().calls();
     core_with(alloc, opening.saturating_add(calls))
 }
@@ -65,8 +66,20 @@ impl<'r, R: Wait + Clock> Bench<'r, R> {
     }
 
     fn make(&mut self, core: Option<Core>, out: &mut Vec<u8>) -> Option<()> {
-        self.core = Some(core?);
+        self.core = core;
+        if self.core.is_none() {
+            return None;
+        }
         push_text(out, "a core")
+    }
+
+    // A core over a fresh store, one whose device fails behind so many calls more, or that of the book.
+    fn core_by(&mut self, verb: &str, rest: &str) -> Option<Core> {
+        match verb {
+            "fresh" => core_with(self.alloc, u64::MAX),
+            "stops" => core_that_stops(self.alloc, rest),
+            _ => self.desks.into_core(),
+        }
     }
 }
 
@@ -85,10 +98,8 @@ impl<'r, R: Wait + Clock> Calls for Bench<'r, R> {
         out: &mut Vec<u8>,
     ) -> Option<()> {
         match verb {
-            "fresh" => self.make(core_with(self.alloc, u64::MAX), out),
-            "stops" => self.make(core_that_stops(self.alloc, rest.parse::<u64>().ok()?), out),
-            "core" => {
-                let core = self.desks.into_core();
+            "fresh" | "stops" | "core" => {
+                let core = self.core_by(verb, rest);
                 self.make(core, out)
             }
             "book" | "lock" => self.open_book(verb == "lock", out),

@@ -58,13 +58,8 @@ impl Desks {
 
     /// A new book over a core. The passes of the one before it stay.
     pub fn open(&mut self, core: Core) -> Option<()> {
-        match Book::open(self.alloc, core) {
-            Ok(book) => {
-                self.book = Some(book);
-                Some(())
-            }
-            Err(_) => None,
-        }
+        self.book = Book::open(self.alloc, core).ok();
+        if self.book.is_some() { Some(()) } else { None }
     }
 
     /// There is no pass any more, and no wish.

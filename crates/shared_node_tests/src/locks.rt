@@ -80,6 +80,15 @@ fn hold<R: Wait + Clock>(
     Some((ended.pass, ends_in(&writer.into_inner()), tally.told()))
 }
 
+// Whether a book is closed with these passes.
+fn closed(shared: Shared<FuseDisk<MemDisk>, Brand>, passes: Vec<Pass>) -> &'static str {
+    if shared.close(passes).is_ok() {
+        "closed"
+    } else {
+        "refused"
+    }
+}
+
 impl Locks {
     /// No book, and no pass.
     pub fn new(alloc: Global) -> Locks {
@@ -92,12 +101,11 @@ impl Locks {
 
     /// A new book over a core. The passes of the one before it stay.
     pub fn open(&mut self, core: Core) -> Option<()> {
-        match Shared::new(self.alloc, core, u64::MAX) {
-            Ok(shared) => {
-                self.shared = Some(shared);
-                Some(())
-            }
-            Err(_) => None,
+        self.shared = Shared::new(self.alloc, core, u64::MAX).ok();
+        if self.shared.is_some() {
+            Some(())
+        } else {
+            None
         }
     }
 
@@ -148,11 +156,10 @@ impl Locks {
 
     fn close(&mut self, numbers: &str) -> Option<&'static str> {
         let passes = self.take_passes(numbers)?;
-        let shared = self.shared.take()?;
-        Some(match shared.close(passes) {
-            Ok(_) => "closed",
-            Err(_) => "refused",
-        })
+        match self.shared.take() {
+            Some(shared) => Some(closed(shared, passes)),
+            None => None,
+        }
     }
 
     fn consider<R: Wait + Clock>(&mut self, rt: &R) -> Option<String> {

@@ -3,7 +3,7 @@
 use crate::watched::Watched;
 use core_calls::{ParameterType, Side, SqlFault};
 use row_values::{Kind, Schema, Value};
-use small_sql::{Answer, absent_claims, bind, claims, describe, run};
+use small_sql::{Answer, Bound, absent_claims, bind, claims, describe, run};
 use sql_descriptions::Description;
 use sql_text::Command;
 use std::alloc::{AllocError, Global};
@@ -91,7 +91,11 @@ fn claimed(
     view: &mut Watched,
 ) -> Result<Vec<Claim>, PlainFault> {
     let bound = bind(alloc, command, &PARAMS, view)?;
-    Ok(claims(alloc, &bound)?)
+    claims_of(alloc, &bound)
+}
+
+fn claims_of(alloc: Global, bound: &Bound<'_, '_>) -> Result<Vec<Claim>, PlainFault> {
+    Ok(claims(alloc, bound)?)
 }
 
 fn push_key(alloc: Global, key: &[u8], out: &mut Vec<u8>) -> Option<()> {
@@ -141,6 +145,10 @@ fn schema_bound(
     view: &mut Watched,
 ) -> Result<Option<Arc<Schema, Global>>, PlainFault> {
     let bound = bind(alloc, command, &PARAMS, view)?;
+    schema_of(&bound)
+}
+
+fn schema_of(bound: &Bound<'_, '_>) -> Result<Option<Arc<Schema, Global>>, PlainFault> {
     Ok(bound.schema()?)
 }
 

@@ -51,7 +51,9 @@ fn push_told(
     out: &mut Vec<u8>,
 ) -> Option<()> {
     let statement = statement(alloc, text).ok()?;
-    push_answer(alloc, &statement.command, asked, view, out)
+    let told = push_answer(alloc, &statement.command, asked, view, out);
+    drop(statement);
+    told
 }
 
 impl Asked {

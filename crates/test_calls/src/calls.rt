@@ -87,7 +87,9 @@ fn ask_statement<C: Calls>(
             parameters,
         },
     };
-    core.step(conversation, &call)
+    let answer = core.step(conversation, &call);
+    drop(statement);
+    answer
 }
 
 // One that makes a call and holds none gets no proof, so this one holds one.
@@ -108,7 +110,9 @@ fn ask_bare<C: Calls>(
             parameters: &[],
         },
     };
-    core.step(conversation, &call)
+    let answer = core.step(conversation, &call);
+    drop(statement);
+    answer
 }
 
 // The values for its markers stand behind an upright line.
