@@ -80,7 +80,7 @@ fn hold<R: Wait + Clock>(
     Some((ended.pass, ends_in(&writer.into_inner()), tally.told()))
 }
 
-// Whether a book is closed with these passes.
+// What is told of a book that is to be closed with these passes.
 fn closed(shared: Shared<FuseDisk<MemDisk>, Brand>, passes: Vec<Pass>) -> &'static str {
     if shared.close(passes).is_ok() {
         "closed"
