@@ -1,6 +1,6 @@
 //! The bytes of claims.
 
-use crate::fixtures::{Parts, claim};
+use crate::claims::{Parts, claim};
 use std::alloc::{AllocError, Global};
 use unit_locks::Access::{Read, Write};
 use unit_locks::{Claim, ReadError};

@@ -1,6 +1,6 @@
 //! Units of work over tables in memory, beside the same changes applied to those.
 
-use crate::fixtures::{Step, add, lists_same, plain, shows_same};
+use crate::steps::{Step, add, lists_same, plain, shows_same};
 use std::alloc::Global;
 use std::test::Fail;
 use unit_changes::{MAX_CHANGED_BYTES, UnitChanges};
@@ -38,7 +38,7 @@ fn all_same(alloc: Global, unit: &UnitChanges, steps: &[Step]) -> Result<bool, F
     let mut base = plain(alloc, &BASE)?;
     let mut other = plain(alloc, &BASE)?;
     for step in steps {
-        other.apply(alloc, crate::fixtures::change(alloc, *step)?)?;
+        other.apply(alloc, crate::steps::change(alloc, *step)?)?;
     }
     for name in NAMES {
         if !lists_same(alloc, &mut base, unit, &mut other, name)? {

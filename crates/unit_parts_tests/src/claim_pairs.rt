@@ -1,6 +1,6 @@
 //! When two claims clash.
 
-use crate::fixtures::{Parts, claim};
+use crate::claims::{Parts, claim};
 use std::alloc::{AllocError, Global};
 use unit_locks::Access::{Read, Write};
 

@@ -1,5 +1,0 @@
-//! Tests of unit_records.
-#![tactic(auto)]
-
-#[cfg(test)]
-mod bodies;
