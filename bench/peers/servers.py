@@ -36,9 +36,10 @@ def running(words, port, log, **options):
 
 
 @contextlib.contextmanager
-def slowed(programs, micros):
-    """Whoever is started in this `with` takes so many microseconds more for each sync (slow.c)."""
-    words = {"LD_PRELOAD": programs["slow.so"], "SYNC_DELAY_US": str(micros)} if micros else {}
+def slowed(programs, micros, is_free=False):
+    """Whoever is started in this `with` takes so many microseconds more for each sync, or makes none under drdad's lock (slow.c)."""
+    words = {"LD_PRELOAD": programs["slow.so"], "SYNC_DELAY_US": str(micros)} if micros or is_free else {}
+    words |= {"SYNC_FREE": "1"} if is_free else {}
     os.environ.update(words)
     try:
         yield
@@ -48,11 +49,11 @@ def slowed(programs, micros):
 
 
 @contextlib.contextmanager
-def drdad(programs, program, store, micros):
+def drdad(programs, program, store, micros, is_free=False):
     """drdad over a fresh store of 1 GiB, and its load."""
     with Server(program, store, 1 << 30) as server:
         server.made.check_returncode()
-        with slowed(programs, micros):
+        with slowed(programs, micros, is_free):
             server.start()
         yield Load(programs["load"], server.port, RDB, USER, PASSWORD)
 

@@ -1,5 +1,6 @@
 // Each sync of a program takes so many microseconds more as SYNC_DELAY_US says: `cc -shared -fPIC -o slow.so slow.c -ldl`, and LD_PRELOAD
-// names it. A sync is fdatasync, fsync, and a write to a file that was opened with O_SYNC or O_DSYNC.
+// names it. A sync is fdatasync, fsync, and a write to a file that was opened with O_SYNC or O_DSYNC. Where SYNC_FREE is set, fdatasync of
+// a file that is read too does nothing: those that drdad makes under its lock, since it flushes from outside of it by another opening.
 #define _GNU_SOURCE
 #include <dlfcn.h>
 #include <fcntl.h>
@@ -26,8 +27,16 @@ static void delay(void) {
     delay(); \
     return done; \
 }
-SYNC(fdatasync)
 SYNC(fsync)
+
+static int is_read(int file) { return (fcntl(file, F_GETFL) & O_ACCMODE) == O_RDWR; }
+
+int fdatasync(int file) {
+    if (getenv("SYNC_FREE") && is_read(file)) return 0;
+    int done = NEXT(fdatasync)(file);
+    delay();
+    return done;
+}
 
 #define OPEN(name) int name(const char *path, int flags, ...) { \
     va_list mode; \

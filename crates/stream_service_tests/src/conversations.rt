@@ -140,22 +140,38 @@ pub fn tell_served(
 ) -> Result<(), AllocError> {
     let (verb, count) = how.split_once(' ').unwrap_or((how, ""));
     let count = count.parse::<usize>().unwrap_or(0);
-    let times = if verb == "times" { count } else { 1 };
-    let input = bytes_named(alloc, text, requests, times)?;
-    let wanted = bytes_named(alloc, text, replies, times)?;
-    let keeps = if verb == "keeps" { count } else { usize::MAX };
-    let came = heard(alloc, core, &input, &wanted, manner_of(verb, count), keeps);
-    let (served, size, all) = (came.served, came.size, wanted.len());
-    let (is_wanted, is_clean, is_short) = (came.is_wanted, came.is_clean, came.is_short);
-    writeln!(
-        out,
-        "  {served:?}, {size} of {all} bytes; as wanted {is_wanted}, clean {is_clean}, short {is_short}"
-    )?;
+    let (came, all) = came_of(alloc, core, text, (verb, count), (requests, replies))?;
+    tell_outcome(&came, all, out)?;
     tell_failed(came.failed, out)?;
     if verb == "keeps" {
         tell_host(came.host, out)?;
     }
     Ok(())
+}
+
+// What becomes of it, and how many bytes it was to be answered.
+fn came_of(
+    alloc: Global,
+    core: &mut Core,
+    text: &str,
+    (verb, count): (&str, usize),
+    (requests, replies): (&str, &str),
+) -> Result<(Outcome, usize), AllocError> {
+    let times = if verb == "times" { count } else { 1 };
+    let keeps = if verb == "keeps" { count } else { usize::MAX };
+    let input = bytes_named(alloc, text, requests, times)?;
+    let wanted = bytes_named(alloc, text, replies, times)?;
+    let came = heard(alloc, core, &input, &wanted, manner_of(verb, count), keeps);
+    Ok((came, wanted.len()))
+}
+
+fn tell_outcome(came: &Outcome, all: usize, out: &mut String) -> Result<(), AllocError> {
+    let (served, size) = (came.served, came.size);
+    let (is_wanted, is_clean, is_short) = (came.is_wanted, came.is_clean, came.is_short);
+    writeln!(
+        out,
+        "  {served:?}, {size} of {all} bytes; as wanted {is_wanted}, clean {is_clean}, short {is_short}"
+    )
 }
 
 // Tells how often reading and writing failed, where they did.

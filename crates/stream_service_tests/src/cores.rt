@@ -6,7 +6,7 @@ use command_kit::Ask;
 use conversation::{Front, Settings};
 use core_calls::{Answer, CoreCall};
 use counted_streams::{Reader, Writer};
-use drda_disk::{Disk, FuseDisk, MemDisk};
+use drda_disk::{FuseDisk, MemDisk};
 use durable_core::{DurableCore, open};
 use half_store::format;
 use std::alloc::{AllocError, Global};
@@ -21,11 +21,11 @@ pub type Core = DurableCore<FuseDisk<MemDisk>>;
 
 /// The core, asked for one conversation after the other.
 #[derive(Drop)]
-struct Asker<'a, D: Disk> {
-    core: &'a mut DurableCore<D>,
+struct Asker<'a> {
+    core: &'a mut Core,
 }
 
-impl<D: Disk> Ask for Asker<'_, D> {
+impl Ask for Asker<'_> {
     ghost asks = { λ _ _ _ _. ⊤ };
 
     fn ask(&mut self, call: &CoreCall<'_, '_, '_>) -> Answer {
@@ -47,9 +47,9 @@ pub fn core_over(alloc: Global, calls: u64) -> Result<Core, AllocError> {
 }
 
 /// How a new conversation is served, for ana with the password pw and the database SHOP. None without memory.
-pub fn serve_over<D: Disk, R: Read, W: Write, H: Host>(
+pub fn serve_over<R: Read, W: Write, H: Host>(
     alloc: Global,
-    core: &mut DurableCore<D>,
+    core: &mut Core,
     reader: &mut Reader<R>,
     writer: &mut Writer<W>,
     host: &mut H,

@@ -39,14 +39,20 @@ fn follow(rt: &HostRuntime, text: &str, out: &mut String) -> Result<(), AllocErr
 fn hear(rt: &HostRuntime, text: &str, part: &str, out: &mut String) -> Result<(), AllocError> {
     writeln!(out, "core")?;
     let mut core = core_over(rt.alloc(), u64::MAX)?;
-    let mut done = Ok(());
+    answer_all(rt, &mut core, text, part, out)
+}
+
+fn answer_all(
+    rt: &HostRuntime,
+    core: &mut Core,
+    text: &str,
+    part: &str,
+    out: &mut String,
+) -> Result<(), AllocError> {
     for line in part.lines() {
-        done = answer(rt, &mut core, text, line, out);
-        if done.is_err() {
-            break;
-        }
+        answer(rt, core, text, line, out)?;
     }
-    done
+    Ok(())
 }
 
 // Writes down a line, and what it comes to: how the streams behave, requests behind a colon, and what they are to be answered behind <. A
