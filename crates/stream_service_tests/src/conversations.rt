@@ -135,12 +135,12 @@ pub fn tell_served(
     core: &mut Core,
     text: &str,
     how: &str,
-    (requests, replies): (&str, &str),
+    names: (&str, &str),
     out: &mut String,
 ) -> Result<(), AllocError> {
     let (verb, count) = how.split_once(' ').unwrap_or((how, ""));
     let count = count.parse::<usize>().unwrap_or(0);
-    let (came, all) = came_of(alloc, core, text, (verb, count), (requests, replies))?;
+    let (came, all) = came_of(alloc, core, text, verb, count, names)?;
     tell_outcome(&came, all, out)?;
     tell_failed(came.failed, out)?;
     if verb == "keeps" {
@@ -154,7 +154,8 @@ fn came_of(
     alloc: Global,
     core: &mut Core,
     text: &str,
-    (verb, count): (&str, usize),
+    verb: &str,
+    count: usize,
     (requests, replies): (&str, &str),
 ) -> Result<(Outcome, usize), AllocError> {
     let times = if verb == "times" { count } else { 1 };
