@@ -166,6 +166,7 @@ fn came_of(
     Ok((came, wanted.len()))
 }
 
+// Tells how it was served, and how many bytes of how many it was answered.
 fn tell_outcome(came: &Outcome, all: usize, out: &mut String) -> Result<(), AllocError> {
     let (served, size) = (came.served, came.size);
     let (is_wanted, is_clean, is_short) = (came.is_wanted, came.is_clean, came.is_short);

@@ -42,6 +42,7 @@ fn hear(rt: &HostRuntime, text: &str, part: &str, out: &mut String) -> Result<()
     answer_all(rt, &mut core, text, part, out)
 }
 
+// Answers each line of a part over this core, up to the first that finds no memory.
 fn answer_all(
     rt: &HostRuntime,
     core: &mut Core,
