@@ -1,8 +1,9 @@
 //! What a book asks its core.
 
-ghost use Rattle.std.specs.Prelude.{◌≡◌, ◌⊎◌, ◌≤◌, IfSome, None, Some, false, if◌then◌else◌, length, true};
+ghost use Rattle.std.specs.Prelude.{◌≡◌, ◌⊎◌, ◌≤◌, IfSome, IsTrue, None, Some, false, if◌then◌else◌, length, true};
 ghost use Rattle.core_calls.specs.Answer.{answer_of};
 ghost use Rattle.core_calls.specs.Call.{call_of, xa};
+ghost use Rattle.durable_core.specs.Ahead.{LetsOpenEarly};
 ghost use Rattle.durable_core.specs.declared.together.Together.TheVariants.{Alone, Closed, DeviceFailed, Done};
 ghost use Rattle.recovery.specs.Journaled.{IsUnchanged, Journaled, shown_on};
 ghost use Rattle.core_history.specs.Gathered.{MakesTogether};
@@ -80,6 +81,20 @@ pub(crate) fn lay_ahead<D: Disk>(core: &mut DurableCore<D>, chosen: &mut Chosen)
         return None;
     }
     core.lay_ahead(&chosen.calls)
+}
+
+/// What was chosen, and was laid ahead, counts on the disk before it is made: what flushes the disk, where it does then.
+pub(crate) fn open_early<D: Disk>(core: &mut DurableCore<D>, chosen: &mut Chosen) -> Option<Flusher>
+    requires early { IsTrue D.is_modelled → LetsOpenEarly D.allows }
+    ensures rests { Rests core.old core.new }
+    ensures journaled { Journaled D.is_modelled (shown_on D.life core.old) (shown_on D.life core.new) }
+{
+    recovery::laws::calls_go_on::<D>();
+    core.is_durable();
+    if !list_calls(&chosen.members, &mut chosen.calls) {
+        return None;
+    }
+    core.open_early(&chosen.calls)
 }
 
 // Whether the device failed at calls that were made together; None where they were not made.

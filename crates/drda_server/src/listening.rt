@@ -1,8 +1,9 @@
 //! Conversations over a network.
 
-ghost use Rattle.std.specs.Prelude.{◌≡◌, ◌⊎◌, Err, IfErr, IfOk, ℕ};
+ghost use Rattle.std.specs.Prelude.{◌≡◌, ◌⊎◌, Err, IfErr, IfOk, IsTrue, ℕ};
 ghost use Rattle.std.specs.Io.KnownBytes.{Appends};
 ghost use Rattle.command_line.specs.Job.{plain_login};
+ghost use Rattle.durable_core.specs.Ahead.{LetsOpenEarly};
 ghost use Rattle.drda_server.specs.Listening.{Listens, ServesStreams, port_line};
 ghost use Rattle.drda_server.specs.Serving.{EndsSo, ServesCore, ServesFile, seen, settings_of, surroundings};
 ghost use Rattle.store_files.specs.Stores.{IsOfDevice, RefusesName};
@@ -59,6 +60,7 @@ where
     let core = open_file(alloc, files, path)?;
     let settings = settings_for(alloc, &core, login)?;
     core_history::laws::kept_books_last::<F::Disk>();
+    F::lets_early();
     serve_core::<F::Disk, Brand, R, N, L, W>(
         rt, alloc, core, &settings, net, log, port, options, out,
     )
@@ -85,7 +87,8 @@ where
     W: Write,
     N::Stream: Send,
     N::Writer: Send,
-    requires { B.is core }
+    requires origin { B.is core }
+    requires early { IsTrue D.is_modelled → LetsOpenEarly D.allows }
     ensures { ServesCore D.is_modelled D.life N.calls N.Stream.remaining N.Writer.contents B.is settings.now options port net.old (W.contents out.old) result net.new (W.contents out.new) }
 {
     let opened = opened(&core);

@@ -1,5 +1,5 @@
 -- Calls that are made together leave a core that is recorded, and what is made of its disk is journaled.
-use Rattle.std.proofs.Common.{◌≡◌, ℕ, ◌+◌, ◌-◌, ◌≤◌, Bool, true, false, IsTrue, List, [], ◌∷◌, ◌++◌, length, map, Some, Result, Ok, Err, IfErr, OnErr, OnOk, refl, sym, ◌∙◌, ap, subst, arith, append-nil}
+use Rattle.std.proofs.Common.{inl, inr, ⊎_elim, ◌≡◌, ℕ, ◌+◌, ◌-◌, ◌≤◌, Bool, true, false, IsTrue, List, [], ◌∷◌, ◌++◌, length, map, Some, Result, Ok, Err, IfErr, OnErr, OnOk, refl, sym, ◌∙◌, ap, subst, arith, append-nil}
 use Rattle.std.proofs.lemmas.Bool.{false≢true}
 use Rattle.drda_disk.specs.Disk.{Life}
 use Rattle.drda_disk.specs.Region.{end_of}
@@ -24,7 +24,9 @@ use Rattle.recovery.specs.StepLaws.{GroupsAreKnown, GroupsAreOfDoubts, GroupsKee
 use Rattle.core_model.specs.Step.{CoreState}
 use Rattle.recovery.specs.Part.{durable_part}
 use Rattle.recovery.specs.Opens.{Holds}
-use Rattle.recovery.specs.ImageLaws.{GroupsStay}
+use Rattle.recovery.specs.ImageLaws.{GroupsOpen, GroupsStay}
+use Rattle.journal_recorder.specs.Ahead.{AllowsEarly}
+use Rattle.durable_core.specs.Ahead.{LetsOpenEarly}
 use Rattle.recovery.specs.Journaled.{CallsGoOn, IsDurable, Journaled, Made, OneCallIsMade, OneGroupIsMade, shown_on}
 use Rattle.journal_recorder.specs.Recording.{AllowsAll, AreLeftOpen, RecordsAll, disk_of, has_failed, journal_of, layout_of, made_of}
 use Rattle.journal_recorder.specs.declared.recorder.DiskRecorder.{DiskRecorder}
@@ -94,6 +96,25 @@ module _ {D : Type 0} (modelled : Bool) (life : D → Life) (name : List ℕ) (a
         (ap (λ (n : ℕ). end_of (region_of (journal_of r)) - n - 1 - held_of (journal_of r)) there.settled.next)
         (subst (λ (n : ℕ). length (laid there.entries) + 1 + n ≤ (region_of (journal_of r)).length) (sym is.held) there.holds.room)
         less (holds_for ∙ ap (λ (n : ℕ). n + hold) (sym is.held))
+
+    -- ---- the records count before they are made
+
+    pub early : GroupsOpen → (allows : List ℕ → List ℕ → Type 0) → (IsTrue modelled → LetsOpenEarly allows) → AllowsEarly modelled life allows r said
+    early opened allows lets honest good less =
+        let there = is.on_disk honest going in
+        record {
+          es = there.entries;
+          there = there.settled;
+          allowed = λ c either. lets honest (life (disk_of r)).seen c (record {
+            name = name;
+            core = s;
+            calls = cs;
+            may = may;
+            opens = (layout_of r, region_of (journal_of r), there.entries, there.holds);
+            either = ⊎_elim (λ before. inl (layout_of r, region_of (journal_of r), there.entries, before)) (λ after. inr (layout_of r, region_of (journal_of r), there.entries ++ map entry_of said, after))
+                (opened name (layout_of r) (region_of (journal_of r)) there.entries (durable_part s) (durable_part behind) said (life (disk_of r)).seen c there.holds good known leads (fit there less) either);
+          });
+        }
 
     -- ---- the records are made
 

@@ -18,3 +18,4 @@ pub mod Grouping
 pub mod Gauged
 pub mod LyingAhead
 pub mod Resting
+pub mod Leaving

@@ -1,7 +1,8 @@
 //! Records that are laid ahead of being made together, so that the disk is flushed from outside meanwhile.
 
 ghost use Rattle.recovery.specs.Journaled.{Journaled, shown_on};
-ghost use Rattle.durable_core.specs.Ahead.{StaysAhead};
+ghost use Rattle.std.specs.Prelude.{IsTrue};
+ghost use Rattle.durable_core.specs.Ahead.{LetsOpenEarly, StaysAhead};
 
 use crate::durable::DurableCore;
 use drda_disk::{Disk, Flushed, Flusher};
@@ -36,6 +37,37 @@ impl<D: Disk> DurableCore<D> {
         }
         let laid = self.core.lay_ahead(calls);
         flusher_of(&self.core, laid)
+    }
+
+    /// Has the records of these calls count on the disk before the calls are made, where they were laid ahead and the disk has settled
+    /// since, and hands out what flushes the disk, from another thread too. A hint, and no more: all is as it was. While nothing else
+    /// is recorded, making these calls together then needs no call of the device, once the disk has settled again; else the records
+    /// are taken back. Meanwhile a crash of the device leaves what is durable of the core, or that behind all of these calls: what
+    /// `Disk::allows` then lets be left.
+    ///
+    /// `None` where they do not: see `lay_ahead`.
+    pub fn open_early(&mut self, calls: &[GroupCall]) -> Option<Flusher>
+        requires early { IsTrue D.is_modelled → LetsOpenEarly D.allows }
+        ensures rests { StaysAhead D.is_modelled (shown_on D.life self.old) (shown_on D.life self.new) }
+        ensures journaled { Journaled D.is_modelled (shown_on D.life self.old) (shown_on D.life self.new) }
+    {
+        recovery::laws::groups_are_recorded();
+        recovery::laws::decisions_of_all_are_held();
+        recovery::laws::groups_open();
+        recovery::laws::groups_stay();
+        recovery::laws::calls_make_records::<D>();
+        recovery::laws::calls_make_groups::<D>();
+        recovery::laws::calls_go_on::<D>();
+        journal_recorder::laws::pages_are_kept::<D>();
+        let recorder = self.core.recorder();
+        if recorder.is_failed() {
+            return None;
+        }
+        if !self.core.may_make(calls) {
+            return None;
+        }
+        let opened = self.core.open_early(calls);
+        flusher_of(&self.core, opened)
     }
 
     /// Tells the disk what became of the flush: it syncs, where anything was written since. Where either failed the core has

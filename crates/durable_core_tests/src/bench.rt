@@ -4,14 +4,15 @@ use crate::told::{tell, told_refusal};
 use crate::worn::WornDisk;
 use core_calls::{Answer, CoreCall};
 use drda_disk::{Disk, FuseDisk, MemDisk};
-use durable_core::{Checkpointed, DurableCore, Refused, open};
+use durable_core::{Checkpointed, DurableCore, EarlyUnits, Refused, open};
+use early_disk::EarlyDisk;
 use half_store::format;
 use std::alloc::Global;
 use test_bytes::bytes_of;
 use test_calls::{Calls, Scripts, push_text};
 
-// A disk in memory that may fail or wear out.
-type Device = WornDisk<FuseDisk<MemDisk>>;
+// A disk in memory that may fail or wear out, on which units may count before they are made.
+type Device = EarlyDisk<WornDisk<FuseDisk<MemDisk>>, EarlyUnits>;
 
 /// A core over such a disk.
 pub type Core = DurableCore<Device>;
@@ -63,7 +64,7 @@ impl Bench {
     fn take_disk(&mut self) -> Option<(MemDisk, u64)> {
         match self.core.take() {
             Some(core) => {
-                let disk = core.into_disk().into_inner();
+                let disk = core.into_disk().into_inner().into_inner();
                 let calls = disk.calls();
                 Some((disk.into_inner(), calls))
             }
@@ -71,15 +72,15 @@ impl Bench {
         }
     }
 
-    fn begin(&mut self, disk: Device, out: &mut Vec<u8>) -> Option<()> {
-        match open(self.alloc, disk) {
+    fn begin(&mut self, disk: WornDisk<FuseDisk<MemDisk>>, out: &mut Vec<u8>) -> Option<()> {
+        match open(self.alloc, EarlyDisk::new(disk)) {
             Ok(core) => {
                 self.core = Some(core);
                 push_text(out, "opened")
             }
             Err(Refused { disk, error }) => {
                 let told = told_refusal(self.alloc, error, disk.size());
-                self.disk = Some(disk.into_inner().into_inner());
+                self.disk = Some(disk.into_inner().into_inner().into_inner());
                 push_text(out, &told.ok()?)
             }
         }

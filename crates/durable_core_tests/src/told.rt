@@ -78,21 +78,31 @@ fn group_call(alloc: Global, word: &str) -> Option<GroupCall> {
     })
 }
 
-// These calls are made together, or their records are laid ahead of that: what came of it.
-fn make_group(alloc: Global, core: &mut Core, words: &str, is_ahead: bool) -> Option<&'static str> {
+// The disk is flushed, where it is to be.
+fn told_flush(
+    flusher: Option<Flusher>,
+    done: &'static str,
+    not_done: &'static str,
+) -> &'static str {
+    match flusher {
+        Some(flusher) => {
+            let _flushed = flusher.flush();
+            done
+        }
+        None => not_done,
+    }
+}
+
+// The records of these calls are laid ahead of being made, or count early.
+fn tell_group(alloc: Global, core: &mut Core, verb: &str, words: &str) -> Option<&'static str> {
     let mut calls = Vec::new(alloc);
     for word in words.split_ascii_whitespace() {
         calls.push(group_call(alloc, word)?).ok()?;
     }
-    if !is_ahead {
-        return Some(told_together(core.make_together(&calls)));
-    }
-    match core.lay_ahead(&calls) {
-        Some(flusher) => {
-            let _flushed = flusher.flush();
-            Some("laid")
-        }
-        None => Some("not laid"),
+    match verb {
+        "ahead" => Some(told_flush(core.lay_ahead(&calls), "laid", "not laid")),
+        "early" => Some(told_flush(core.open_early(&calls), "early", "not early")),
+        _ => Some(told_together(core.make_together(&calls))),
     }
 }
 
@@ -158,7 +168,7 @@ fn told_copy(core: &mut Core) -> &'static str {
 }
 
 /// `together` makes calls together: each is C, the commit of the conversation C, or PHASE=N, by which the conversation N asks for a phase
-/// of the branch =N. `ahead` lays their records ahead of that, and `settle` settles the disk. `decide XID commit` or `rollback` decides a
+/// of the branch =N. `ahead` lays their records ahead of that, `early` has them count, and `settle` settles the disk. `decide XID commit` or `rollback` decides a
 /// branch heuristically, `checkpoint` makes a checkpoint, `room` tells the store's name and the room of its journal, `layout` the layout of
 /// its active half, `in_doubt` and `branches` which branches are in doubt, and `copy` copies the state.
 pub fn tell(
@@ -169,8 +179,7 @@ pub fn tell(
     out: &mut Vec<u8>,
 ) -> Option<()> {
     match verb {
-        "together" => push_text(out, make_group(alloc, core, rest, false)?),
-        "ahead" => push_text(out, make_group(alloc, core, rest, true)?),
+        "together" | "ahead" | "early" => push_text(out, tell_group(alloc, core, verb, rest)?),
         "settle" => {
             core.settle(Flusher::nothing().flush());
             push_text(out, "settled")

@@ -1,9 +1,9 @@
 //! Records that are laid ahead of being made.
 
-ghost use Rattle.std.specs.Prelude.{◌≡◌, ◌+◌, ◌<◌, ◌≤◌, ◌^◌, false, OnErr, OnOk, length};
+ghost use Rattle.std.specs.Prelude.{◌≡◌, ◌+◌, ◌<◌, ◌≤◌, ◌^◌, false, IsTrue, OnErr, OnOk, length};
 ghost use Rattle.drda_disk.specs.Disk.{Stays};
 ghost use Rattle.drda_disk.specs.Region.{end_of};
-ghost use Rattle.unit_journal.specs.Journal.{held_of, region_of};
+ghost use Rattle.unit_journal.specs.Journal.{held_of, region_of, room_of};
 ghost use Rattle.unit_journal.specs.Record.{laid as spelled};
 
 use crate::laying_all::LaidTogether;
@@ -14,7 +14,7 @@ use unit_records::DeviceFailed;
 impl<D: Disk> DiskRecorder<D> {
     ghost use Rattle.journal_recorder.specs.Ahead.{FailsAhead, LaysAhead};
     ghost use Rattle.journal_recorder.specs.Recording.{disk_of, has_failed, journal_of, staged_of};
-    ghost use Rattle.unit_journal.specs.Staged.{IsAtRest};
+    ghost use Rattle.unit_journal.specs.Staged.{IsAtRest, MayOpenEarly};
 
     // Lays records behind the others, and tells whether they lie there; a failure of the device is remembered.
     pub(crate) fn lay_group(&mut self, laid: LaidTogether) -> Result<bool, DeviceFailed>
@@ -30,6 +30,30 @@ impl<D: Disk> DiskRecorder<D> {
             .lay_ahead(&mut self.pager, laid.group, laid.hold, laid.release)
         {
             Ok(lies) => Ok(lies),
+            Err(DiskFault) => {
+                self.is_failed = true;
+                Err(DeviceFailed)
+            }
+        }
+    }
+
+    // Has records count on the device before they are made, where they were laid and the disk has settled since, and tells whether they
+    // do; a failure of the device is remembered.
+    pub(crate) fn open_group(&mut self, laid: &LaidTogether) -> Result<bool, DeviceFailed>
+        requires going { has_failed self.old ≡ false }
+        requires inside { end_of (region_of (journal_of self.old)) ≤ length (D.life (disk_of self.old)).seen }
+        requires counted { length (spelled laid.now.group) + laid.now.hold < 2 ^ 64 }
+        requires released { laid.now.release ≤ held_of (journal_of self.old) }
+        requires allowed { IsTrue D.is_modelled → length (spelled laid.now.group) + laid.now.hold ≤ room_of (journal_of self.old) + laid.now.release
+            → MayOpenEarly D.is_modelled (D.life (disk_of self.old)) (staged_of self.old) laid.now.group D.allows }
+        ensures ok { OnOk result (LaysAhead D.is_modelled D.life self.old self.new) }
+        ensures err { OnErr result (FailsAhead D.is_modelled D.life self.old self.new) }
+    {
+        match self
+            .staged
+            .open_early(&mut self.pager, &laid.group, laid.hold, laid.release)
+        {
+            Ok(stands) => Ok(stands),
             Err(DiskFault) => {
                 self.is_failed = true;
                 Err(DeviceFailed)

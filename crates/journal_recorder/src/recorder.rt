@@ -213,5 +213,16 @@ impl<D: Disk> Recorder for DiskRecorder<D> {
         }
     }
 
+    ghost use Rattle.journal_recorder.specs.Ahead.{AllowsEarly};
+
+    ghost allows_early = { λ r records. AllowsEarly D.is_modelled D.life D.allows r records };
+
+    fn open_early(&mut self, sayings: &[RecordContents<'_>]) -> Result<bool, DeviceFailed> {
+        match lay_all(self.alloc, self.layout, sayings, self.small_room()) {
+            Some(laid) => self.open_group(&laid),
+            None => Ok(false),
+        }
+    }
+
     ghost lays_none = { λ r. nothing_laid D.is_modelled D.life r };
 }

@@ -1,5 +1,8 @@
 //! Files in memory.
 
+ghost use Rattle.std.specs.Prelude.{IsTrue, true};
+ghost use Rattle.durable_core.specs.Ahead.{LetsOpenEarly};
+
 use drda_disk::{Disk, FileFault, FuseDisk, MemDisk};
 use drda_program::{Reader, StoreFiles, Writer};
 use std::alloc::Global;
@@ -67,6 +70,10 @@ impl<'a> Shelf<'a> {
 
 impl StoreFiles for Shelf<'_> {
     type Disk = FuseDisk<MemDisk>;
+
+    fn lets_early()
+        ensures { IsTrue true → LetsOpenEarly (λ _ _. Unit {0}) }
+    {}
 
     fn create(&mut self, path: &str, size: usize) -> Result<FuseDisk<MemDisk>, FileFault> {
         if path != "new" {

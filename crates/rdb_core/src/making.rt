@@ -68,6 +68,23 @@ impl<R: Recorder> Core<R> {
             Err(AllocError) => Ok(false),
         }
     }
+
+    /// Has the records of these calls, which were laid ahead, count on the device before the calls are made, as a hint: whether they
+    /// do then. All is as it was. Where memory is refused they do not.
+    pub fn open_early(&mut self, calls: &[GroupCall]) -> Result<bool, DeviceFailed>
+        requires may { may_make (state_of self.old) calls.now ≡ true }
+        requires allowed { R.allows_all (recorder_of self.old) (records_of (state_of self.old).base.units calls.now) }
+        requires early { R.allows_early (recorder_of self.old) (records_of (state_of self.old).base.units calls.now) }
+        ensures laid { OnOk result (R.lays_ahead (recorder_of self.old) (recorder_of self.new)) }
+        ensures failed { OnErr result (R.fails_ahead (recorder_of self.old) (recorder_of self.new)) }
+        ensures state { state_of self.new ≡ state_of self.old }
+        ensures pages { pages_of self.new ≡ pages_of self.old }
+    {
+        let Ok(sayings) = sayings_of(&self.base.units, self.alloc, calls) else {
+            return Ok(false);
+        };
+        self.recorder.open_early(sayings.as_slice())
+    }
 }
 
 // Copies of the changes that are made, one unit's behind another's: of the units that are committed.

@@ -152,4 +152,10 @@ impl<D: Disk> Disk for Pager<D> {
     fn settle(&mut self, flushed: Flushed) -> Result<(), DiskFault> {
         self.disk.settle(flushed)
     }
+
+    ghost allows = { D.allows };
+
+    fn write_early(&mut self, at: usize, byte: u8) -> Result<bool, DiskFault> {
+        self.disk.write_early(at, byte)
+    }
 }

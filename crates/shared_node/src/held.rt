@@ -23,7 +23,9 @@ pub(crate) struct Held<D: Disk, B: Origin<D>> {
 
 impl<D: Disk, B: Origin<D>> Model for Held<D, B> {
     ghost use Rattle.std.specs.Coded.{codes};
+    ghost use Rattle.std.specs.Prelude.{IsTrue};
     ghost use Rattle.core_history.specs.Books.{Told};
+    ghost use Rattle.durable_core.specs.Ahead.{LetsOpenEarly};
     ghost use Rattle.sql_copies.specs.Stored.{coded_predicate};
 
     ghost Value = { Told D };
@@ -32,7 +34,7 @@ impl<D: Disk, B: Origin<D>> Model for Held<D, B> {
 
     ghost view = { λ h. h.book };
 
-    ghost invariant = { λ h. B.is h.book.opening };
+    ghost invariant = { λ h. B.is h.book.opening × (IsTrue D.is_modelled → LetsOpenEarly D.allows) };
 }
 
 impl<D: Disk, B: Origin<D>> Held<D, B> {
@@ -41,6 +43,7 @@ impl<D: Disk, B: Origin<D>> Held<D, B> {
     ghost use Rattle.core_history.specs.Books.{IsKept};
     ghost use Rattle.core_history.specs.Passes.{Admits, HasNoLeave, Knows, retired};
     ghost use Rattle.unit_records.specs.Together.{call_for};
+    ghost use Rattle.durable_core.specs.Ahead.{LetsOpenEarly};
     ghost use Rattle.recovery.specs.Journaled.{Journaled, shown_on};
     ghost use Rattle.shared_node.specs.Desks.{DeskActs};
     ghost use Rattle.shared_node.specs.Locked.{Considers, LaysAhead};
@@ -49,7 +52,8 @@ impl<D: Disk, B: Origin<D>> Held<D, B> {
 
     /// The book lies there, and nothing is wished for.
     pub(crate) fn new(book: Book<D>, wishes: Vec<Wish>) -> Held<D, B>
-        requires { B.is book.opening }
+        requires origin { B.is book.opening }
+        requires early { IsTrue D.is_modelled → LetsOpenEarly D.allows }
     {
         Held {
             book,
@@ -112,6 +116,24 @@ impl<D: Disk, B: Origin<D>> Held<D, B> {
         self.book.is_kept();
         waiting.take(rt, &mut self.wishes);
         let flusher = self.book.lay_ahead(&self.wishes);
+        self.book.is_kept();
+        flusher
+    }
+
+    /// What became of the flush of what was laid ahead. Where it lies there still, it counts on the disk before it is made, and what
+    /// flushes the disk is handed out.
+    pub(crate) fn open_early(&mut self, flushed: Flushed) -> Option<Flusher>
+        ensures lays { LaysAhead self.old self.new }
+        ensures was_kept { IsKept D.is_modelled D.life self.old }
+        ensures is_kept { IsKept D.is_modelled D.life self.new }
+        ensures origin { B.is self.old.opening }
+        ensures journaled { Journaled D.is_modelled (shown_on D.life self.old.core) (shown_on D.life self.new.core) }
+    {
+        recovery::laws::calls_go_on::<D>();
+        self.book.is_kept();
+        let book = &mut self.book;
+        book.settle(flushed);
+        let flusher = book.open_early(&self.wishes);
         self.book.is_kept();
         flusher
     }

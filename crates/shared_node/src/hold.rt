@@ -32,8 +32,8 @@ impl<'a, D: Disk, B: Origin<D>> Hold<'a, D, B> {
     }
 }
 
-/// Lays the group that is led ahead of being made. Where it lies there, the lock is given back while the disk is flushed, and then held
-/// again; else it is held still.
+/// Lays the group that is led ahead of being made, and has it count on the disk, a step each, behind which the disk is flushed. Where a step
+/// was taken, the lock is given back meanwhile, and then held again; else it is held still.
 pub(crate) fn lay_ahead<'a, D: Disk, B: Origin<D>, R: Wait + Clock>(
     rt: &R,
     shared: &'a Shared<D, B>,
@@ -44,6 +44,28 @@ pub(crate) fn lay_ahead<'a, D: Disk, B: Origin<D>, R: Wait + Clock>(
     let Hold { mut guard, begun } = hold;
     let held = &mut *guard;
     let Some(flusher) = held.lay_ahead(rt, &shared.waiting) else {
+        return Hold { guard, begun };
+    };
+    let begun = begun.pause(rt);
+    drop(guard);
+    let flushed = flusher.flush();
+    open_early(rt, shared, begun, flushed)
+}
+
+// The lock is taken again, and what was laid ahead counts on the disk before it is made.
+fn open_early<'a, D: Disk, B: Origin<D>, R: Wait + Clock>(
+    rt: &R,
+    shared: &'a Shared<D, B>,
+    begun: Begun,
+    flushed: Flushed,
+) -> Hold<'a, D, B>
+    ensures { UnderLock D.is_modelled D.life B.is LaysAhead }
+{
+    let came = time(rt);
+    let mut guard = shared.take(rt);
+    let held = &mut *guard;
+    let begun = begun.resume(rt, came, &held.book);
+    let Some(flusher) = held.open_early(flushed) else {
         return Hold { guard, begun };
     };
     let begun = begun.pause(rt);

@@ -36,7 +36,8 @@ pub struct Shared<D: Disk, B: Origin<D>> {
 }
 
 impl<D: Disk, B: Origin<D>> Shared<D, B> {
-    ghost use Rattle.std.specs.Prelude.{◌≡◌, ◌<◌, [], IfErr, IfOk, IfSome, MatchResult, None};
+    ghost use Rattle.std.specs.Prelude.{◌≡◌, ◌<◌, [], IfErr, IfOk, IfSome, IsTrue, MatchResult, None};
+    ghost use Rattle.durable_core.specs.Ahead.{LetsOpenEarly};
     ghost use Rattle.core_history.specs.Passes.{AreJust, AreListed, calls_in};
     ghost use Rattle.shared_node.specs.Locked.{Considers, GivesLeave, GivesNone, Retires, UnderLock};
 
@@ -47,7 +48,8 @@ impl<D: Disk, B: Origin<D>> Shared<D, B> {
         core: DurableCore<D>,
         all_bytes: u64,
     ) -> Result<Shared<D, B>, DurableCore<D>>
-        requires { B.is core }
+        requires origin { B.is core }
+        requires early { IsTrue D.is_modelled → LetsOpenEarly D.allows }
         ensures { IfErr result (λ back. back ≡ core) }
     {
         let Ok(waiting) = Waiting::new(alloc) else {

@@ -3,8 +3,9 @@
 use crate::books::{Core, Desks};
 use crate::locks::Locks;
 use core_calls::{Answer, CoreCall};
-use drda_disk::{FuseDisk, MemDisk};
+use drda_disk::FuseDisk;
 use durable_core::open;
+use early_disk::EarlyDisk;
 use std::alloc::Global;
 use std::sync::Wait;
 use std::time::Clock;
@@ -23,7 +24,8 @@ pub struct Bench<'r, R> {
 
 // A core over a fresh store, whose device fails behind so many calls.
 fn core_with(alloc: Global, calls: u64) -> Option<Core> {
-    match open(alloc, FuseDisk::new(fresh_store(alloc)?, calls, false)) {
+    let disk = FuseDisk::new(fresh_store(alloc)?, calls, false);
+    match open(alloc, EarlyDisk::new(disk)) {
         Ok(core) => Some(core),
         Err(_) => None,
     }
@@ -32,7 +34,7 @@ fn core_with(alloc: Global, calls: u64) -> Option<Core> {
 // The same, whose device fails behind so many calls more than those of the opening.
 fn core_that_stops(alloc: Global, calls: &str) -> Option<Core> {
     let calls = calls.parse::<u64>().ok()?;
-    let opening = core_with(alloc, u64::MAX)?.into_disk().calls();
+    let opening = core_with(alloc, u64::MAX)?.into_disk().into_inner().calls();
     core_with(alloc, opening.saturating_add(calls))
 }
 
@@ -107,7 +109,7 @@ impl<'r, R: Wait + Clock> Calls for Bench<'r, R> {
             "holds" | "writes" | "back" | "consider" | "close" => {
                 self.locks.tell(self.rt, verb, rest, out)
             }
-            "wish" | "lay" | "settle" | "gather" | "collect" => self
+            "wish" | "lay" | "early" | "settle" | "gather" | "collect" => self
                 .desks
                 .tell_of_groups(verb, rest, out),
             _ => self.desks.tell(verb, rest, out),

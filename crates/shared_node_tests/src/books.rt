@@ -2,20 +2,24 @@
 
 use core_calls::{Answer, CoreCall};
 use drda_disk::{Flushed, FuseDisk, MemDisk};
-use durable_core::DurableCore;
+use durable_core::{DurableCore, EarlyUnits};
+use early_disk::EarlyDisk;
 use shared_node::{Acted, Book, Pass, Wish};
 use std::alloc::{AllocError, Global};
 use test_calls::push_text;
 
-/// A core over a disk in memory that may fail.
-pub type Core = DurableCore<FuseDisk<MemDisk>>;
+/// A disk in memory that may fail, on which units may count before they are made.
+pub type Device = EarlyDisk<FuseDisk<MemDisk>, EarlyUnits>;
+
+/// A core over it.
+pub type Core = DurableCore<Device>;
 
 /// A book, passes in the order in which they were given, from 1 on, wishes to commit, and what became of the flush of a group that was laid
 /// ahead.
 #[derive(Drop)]
 pub struct Desks {
     pub(crate) alloc: Global,
-    pub(crate) book: Option<Book<FuseDisk<MemDisk>>>,
+    pub(crate) book: Option<Book<Device>>,
     pub(crate) passes: Vec<Option<Pass>>,
     pub(crate) wishes: Vec<Wish>,
     pub(crate) flushed: Option<Flushed>,
@@ -93,7 +97,7 @@ impl Desks {
 
     // How many calls the book's device has had. The book is gone then.
     fn said_calls(&mut self) -> Option<String> {
-        let calls = self.into_core()?.into_disk().calls();
+        let calls = self.into_core()?.into_disk().into_inner().calls();
         format!(in self.alloc; "{calls} calls of the device").ok()
     }
 

@@ -48,6 +48,18 @@ impl Desks {
         Some("laid")
     }
 
+    // What was laid counts before it is made, where that is possible, and is flushed.
+    fn count_early(&mut self) -> Option<&'static str> {
+        let Some(book) = &mut self.book else {
+            return None;
+        };
+        let Some(flusher) = book.open_early(&self.wishes) else {
+            return Some("not early");
+        };
+        self.flushed = Some(flusher.flush());
+        Some("early")
+    }
+
     // The book is told of the flush.
     fn settle(&mut self) -> Option<&'static str> {
         let Some(book) = &mut self.book else {
@@ -92,6 +104,7 @@ impl Desks {
     fn tell_of_all(&mut self, verb: &str, out: &mut Vec<u8>) -> Option<()> {
         match verb {
             "lay" => push_text(out, self.lay()?),
+            "early" => push_text(out, self.count_early()?),
             "settle" => push_text(out, self.settle()?),
             _ => {
                 self.gather()?;
@@ -101,10 +114,10 @@ impl Desks {
     }
 
     /// `wish N` is the wish of a pass to commit, and `wish N VERB XID` for a phase of a branch; `lay` lays ahead what was wished for and
-    /// flushes it, and `settle` tells the book of that; `gather` makes it together, and `collect N`, or `collect N VERB XID`, gives what is
-    /// left for a pass.
+    /// flushes it, `early` has it count and flushes that, and `settle` tells the book of a flush; `gather` makes it together, and `collect N`,
+    /// or `collect N VERB XID`, gives what is left for a pass.
     pub fn tell_of_groups(&mut self, verb: &str, rest: &str, out: &mut Vec<u8>) -> Option<()> {
-        if matches!(verb, "lay" | "settle" | "gather") {
+        if matches!(verb, "lay" | "early" | "settle" | "gather") {
             return self.tell_of_all(verb, out);
         }
         let (number, wished) = wish_in(self.alloc, rest)?;

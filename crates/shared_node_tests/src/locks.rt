@@ -1,10 +1,9 @@
 //! A book under a lock, and passes, of which some may be another book's.
 
-use crate::books::{Core, place_of};
+use crate::books::{Core, Device, place_of};
 use crate::tallies::{Tally, Told};
 use conversation::Settings;
 use counted_streams::{Reader, Writer};
-use drda_disk::{FuseDisk, MemDisk};
 use shared_node::{Desk, Pass, Shared};
 use std::alloc::Global;
 use std::marker::Brand;
@@ -18,7 +17,7 @@ use test_calls::push_text;
 #[derive(Drop)]
 pub struct Locks {
     alloc: Global,
-    shared: Option<Shared<FuseDisk<MemDisk>, Brand>>,
+    shared: Option<Shared<Device, Brand>>,
     passes: Vec<Option<Pass>>,
 }
 
@@ -66,7 +65,7 @@ fn ends_in(replies: &[u8]) -> u64 {
 fn hold<R: Wait + Clock>(
     rt: &R,
     alloc: Global,
-    shared: &Shared<FuseDisk<MemDisk>, Brand>,
+    shared: &Shared<Device, Brand>,
     writes: bool,
     times: u64,
 ) -> Option<(Pass, u64, Told)> {
@@ -81,7 +80,7 @@ fn hold<R: Wait + Clock>(
 }
 
 // What is told of a book that is to be closed with these passes.
-fn closed(shared: Shared<FuseDisk<MemDisk>, Brand>, passes: Vec<Pass>) -> &'static str {
+fn closed(shared: Shared<Device, Brand>, passes: Vec<Pass>) -> &'static str {
     if shared.close(passes).is_ok() {
         "closed"
     } else {

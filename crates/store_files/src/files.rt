@@ -3,9 +3,12 @@
 ghost use Rattle.std.specs.Prelude.{◌≡◌, IfOk, IsTrue, option_map, replicate, string_bytes};
 ghost use Rattle.std.specs.Result.{result_ok};
 ghost use Rattle.drda_disk.specs.Disk.{Only};
+ghost use Rattle.durable_core.specs.Ahead.{LetsOpenEarly};
 ghost use Rattle.store_files.specs.Files.{FileCalls, any_files};
 
 use drda_disk::{Disk, FileDisk, FileFault, FilePath, FilePlace, SystemFile};
+use durable_core::EarlyUnits;
+use early_disk::EarlyDisk;
 use std::alloc::Global;
 use std::fmt::{Display, Write};
 use std::fs::{self, File, Permissions};
@@ -36,6 +39,10 @@ pub trait StoreFiles {
     /// What a call comes to.
     ghost calls: { FileCalls Self Self.Disk } = { any_files };
 
+    /// Units may count on the disk before they are made. Does nothing.
+    fn lets_early()
+        ensures { IsTrue Self.Disk.is_modelled → LetsOpenEarly Self.Disk.allows };
+
     /// Makes a file of so many zeros, which is its owner's alone. Refused where there is one of this path already.
     fn create(&mut self, path: &str, size: usize) -> Result<Self::Disk, FileFault>
         ensures call { calls.creates self.old path.now size (result_ok result) self.new }
@@ -59,6 +66,9 @@ pub trait StoreFiles {
     /// it. It stands in front of the line of the fault, and no contract says what is in it.
     fn reason(&self) -> &str;
 }
+
+/// A file of the system as a disk, on which units may count before they are made.
+pub type SystemDisk = EarlyDisk<FileDisk<SystemFile>, EarlyUnits>;
 
 /// The files of the system.
 #[derive(Drop)]
@@ -86,22 +96,28 @@ impl<'a, R: Files<File = File>> SystemFiles<'a, R> {
 }
 
 impl<'a, R: Files<File = File>> StoreFiles for SystemFiles<'a, R> {
-    type Disk = FileDisk<SystemFile>;
+    type Disk = SystemDisk;
 
-    fn create(&mut self, path: &str, size: usize) -> Result<FileDisk<SystemFile>, FileFault> {
-        let made = make_private(self.alloc, self.rt, path, size);
-        if let Err(fault) = &made {
-            self.note(path, fault);
+    fn lets_early() {}
+
+    fn create(&mut self, path: &str, size: usize) -> Result<SystemDisk, FileFault> {
+        match make_private(self.alloc, self.rt, path, size) {
+            Ok(disk) => Ok(EarlyDisk::new(disk)),
+            Err(fault) => {
+                self.note(path, &fault);
+                Err(fault)
+            }
         }
-        made
     }
 
-    fn open(&mut self, path: &str) -> Result<FileDisk<SystemFile>, FileFault> {
-        let opened = FileDisk::open(&mut FilePath::new(self.alloc, self.rt, path));
-        if let Err(fault) = &opened {
-            self.note(path, fault);
+    fn open(&mut self, path: &str) -> Result<SystemDisk, FileFault> {
+        match FileDisk::open(&mut FilePath::new(self.alloc, self.rt, path)) {
+            Ok(disk) => Ok(EarlyDisk::new(disk)),
+            Err(fault) => {
+                self.note(path, &fault);
+                Err(fault)
+            }
         }
-        opened
     }
 
     fn discard(&mut self, path: &str) {

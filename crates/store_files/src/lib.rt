@@ -9,6 +9,6 @@ mod streams;
 
 pub use blocks::reserve_blocks;
 pub use fault::Fault;
-pub use files::{StoreFiles, SystemFiles};
+pub use files::{StoreFiles, SystemDisk, SystemFiles};
 pub use stores::{fault_of, fresh, make_file, open_file, open_to_run};
 pub use streams::{flush, tell};

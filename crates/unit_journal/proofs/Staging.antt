@@ -8,7 +8,7 @@ use Rattle.drda_disk.specs.Disk.{Life, LeavesOnly, Now, Only, Stays, Tears, Torn
 use Rattle.drda_disk.specs.Images.{Torn-refl, Torn-overlaid}
 use Rattle.drda_disk.specs.Region.{end_of, SameOutside}
 use Rattle.drda_disk.specs.declared.region.Region.{Region}
-use Rattle.drda_disk.proofs.Moments.{and_then, torn, stays_leaves, stays_and, weaker, Only-stays}
+use Rattle.drda_disk.proofs.Moments.{and_then, torn, stays_leaves, stays_and, weaker, Only-stays, Stays-refl}
 use Rattle.drda_disk.proofs.Parts.{part_before, part-overlaid, Torn-wider, Torn-trans}
 use Rattle.unit_journal.specs.Record.{Entry, laid, AreShort}
 use Rattle.unit_journal.specs.Stands.{StandsFrom, Stands, IsBeforeOrAfterAll}
@@ -175,6 +175,11 @@ module _ (modelled : Bool) (old mid : Life) (s : Staged) (es hs : List Entry) (u
             (with_it (region_of s).at (end_of (region_of s)) es hs mid.seen stands_before (next_of s) u.next bytes is fits short mid.seen (Torn-refl (next_of s + 1) (length bytes) mid.seen) there new.seen cut gate);
         next = next ∙ omega (arith, u.next, length-bytes hs bytes is, length-laid-append es hs) ∙ ap (λ (r : Region). r.at + length (laid (es ++ hs))) (sym region);
       }
+
+-- whichever byte stands at the gate of a group that was laid
+pub early_gate : (modelled : Bool) (disk : Life) (s : Staged) (es hs : List Entry) → IsUnderWay modelled disk s es → ahead_of s ≡ hs → (bytes : List ℕ) → 165 ∷ bytes ≡ laid hs ++ 0 ∷ [] → AreShort hs
+    → next_of s + 1 + length bytes ≤ end_of (region_of s) → (c : List ℕ) → Torn (next_of s) 1 disk.seen c → IsBeforeOrAfterAll (region_of s) disk.seen es hs c
+early_gate modelled disk s es hs u ahead bytes is short fits c torn = gate_over modelled disk disk s es hs u ahead (Stays-refl disk) bytes is short fits c torn
 
 -- ---- records are added at rest
 

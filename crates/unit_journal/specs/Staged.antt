@@ -71,3 +71,9 @@ pub record AddsBehind {T : Type 0} (modelled : Bool) (old new : Life) (before af
 abbrev pub LiesBehind : Bool → ℕ → ℕ → ℕ → List Entry → List Entry → Type 0
 LiesBehind true asked release room group ahead = (ahead ≡ group) × (asked ≤ room + release)
 LiesBehind false asked release room group ahead = (ahead ≡ []) × (room + release < asked)
+
+-- these records are there to stay, and the images that the gate of a group behind them leaves may be left
+pub record MayOpenEarly (modelled : Bool) (disk : Life) (s : Staged) (gs : List Entry) (allows : List ℕ → List ℕ → Type 0) : Type 0 where
+  pub es : List Entry
+  pub there : IsUnderWay modelled disk s es
+  pub allowed : (c : List ℕ) → IsBeforeOrAfterAll (region_of s) disk.seen es gs c → allows disk.seen c

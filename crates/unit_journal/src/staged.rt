@@ -1,5 +1,5 @@
 //! A journal behind whose records a group may be laid ahead of being added.
-ghost use Rattle.std.specs.Prelude.{◌≡◌, ◌+◌, ◌≤◌, ◌∷◌, [], List, length, true, IfOk, OnOk, OnErr};
+ghost use Rattle.std.specs.Prelude.{◌≡◌, ◌+◌, ◌≤◌, ◌∷◌, [], IsTrue, List, length, true, IfOk, OnOk, OnErr};
 ghost use Rattle.drda_disk.specs.Region.{SameOutside, end_of};
 ghost use Rattle.drda_disk.specs.Disk.{LeavesOnly, Only, Stays, CountsFault};
 ghost use Rattle.unit_journal.specs.Adding.{MayAdd};
@@ -37,7 +37,7 @@ fn sync_unless<D: Disk>(is_settled: bool, disk: &mut D) -> Result<(), DiskFault>
 }
 
 impl Staged {
-    ghost use Rattle.unit_journal.specs.Staged.{AddsBehind, IsAtRest, IsUnderWay, LiesBehind, ahead_of, is_settled, journal_of, region_of};
+    ghost use Rattle.unit_journal.specs.Staged.{AddsBehind, IsAtRest, IsUnderWay, LiesBehind, MayOpenEarly, ahead_of, is_settled, journal_of, region_of};
 
     /// A journal with nothing laid behind it.
     pub fn at_rest(journal: Journal) -> Staged
@@ -163,6 +163,33 @@ impl Staged {
         sync_unless(self.is_settled, disk)?;
         self.is_settled = true;
         Ok(())
+    }
+
+    /// Opens the gate of this group early, where it was laid, has room, and the disk has settled since: whether that was done. It is a
+    /// hint: all is as it was, and adding the group next needs no call of the device once the disk has settled again. Meanwhile a
+    /// crash of the device leaves the records, or those and all of the group. See `Disk::write_early`.
+    pub fn open_early<D: Disk>(
+        &self,
+        disk: &mut D,
+        group: &LaidGroup,
+        hold: usize,
+        release: usize,
+    ) -> Result<bool, DiskFault>
+        requires may { MayAdd (length (D.life disk.old).seen) (journal_of self.now) (length (spelled group.now)) hold release }
+        requires allowed { IsTrue D.is_modelled → length (spelled group.now) + hold ≤ room_of (journal_of self.now) + release
+            → MayOpenEarly D.is_modelled (D.life disk.old) self.now group.now D.allows }
+        ensures stays { Stays (D.life disk.old) (D.life disk.new) }
+        ensures cause { CountsFault result (D.life disk.old).faults (D.life disk.new).faults }
+    {
+        let size = group.bytes().len();
+        match self.journal.lacks(size, hold, release) {
+            Some(_full) => return Ok(false),
+            None => {}
+        }
+        if !self.is_settled || !self.is_ahead(group) {
+            return Ok(false);
+        }
+        disk.write_early(self.journal.next, OPEN_GATE)
     }
 
     // Whether this group was laid.

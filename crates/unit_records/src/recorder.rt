@@ -53,6 +53,20 @@ pub trait Recorder {
         ensures ok { OnOk result (lays_ahead self.old self.new) }
         ensures err { OnErr result (fails_ahead self.old self.new) };
 
+    ghost allows_early: { Self → List UnitRecord → Type 0 } = { λ _ _. Unit {0} };
+
+    /// Has these count on the device before they are made, where they were laid ahead and the device was flushed since, as a hint:
+    /// whether they do then. All is as it was. Nothing is done by itself.
+    fn open_early(&mut self, sayings: &[RecordContents<'_>]) -> Result<bool, DeviceFailed>
+        requires allowed { allows_all self.old (map said_by sayings.now) }
+        requires early { allows_early self.old (map said_by sayings.now) }
+        ensures ok { OnOk result (lays_ahead self.old self.new) }
+        ensures err { OnErr result (fails_ahead self.old self.new) }
+    {
+        let _ = sayings;
+        Ok(false)
+    }
+
     /// Who lays nothing is as it was.
     ghost lays_none: { (recorder : Self) → lays_ahead recorder recorder };
 }
