@@ -8,7 +8,7 @@ import glob, json
 from crates import TOP, crates_now, edits_in
 
 # Seconds: the texts of all crates before any proof, the programs and tests that are run at the end.
-BEFORE, AFTER = 35, 150
+BEFORE, AFTER = 35, 30
 # How many gigabytes rt takes to be free, and how much faster a task is with so many jobs.
 FREE, FASTER = 19.0, {1: 1, 2: 1.5, 3: 1.8, 4: 2.0}
 PROOF, TESTS, EDITS = "proofs", "tests", "edits"
