@@ -3,6 +3,7 @@
 use crate::hold::{Hold, end, lay_ahead};
 use crate::keeping::Share;
 use crate::origin::Origin;
+use crate::owing::Owing;
 use crate::shared::Shared;
 use crate::turn::time;
 use command_kit::Ask;
@@ -37,6 +38,7 @@ pub(crate) struct Asker<'a, D: Disk, B: Origin<D>, R: Wait + Clock, G: Gate> {
     waited: u64,
     held: u64,
     share: Share,
+    owing: Owing,
 }
 
 impl<'a, D: Disk, B: Origin<D>, R: Wait + Clock, G: Gate> Model for Asker<'a, D, B, R, G> {
@@ -77,6 +79,7 @@ impl<'a, D: Disk, B: Origin<D>, R: Wait + Clock, G: Gate> Asker<'a, D, B, R, G> 
             waited: 0,
             held: 0,
             share: Share::new(cursor_bytes),
+            owing: Owing::new(),
         }
     }
 
@@ -94,9 +97,14 @@ impl<'a, D: Disk, B: Origin<D>, R: Wait + Clock, G: Gate> Asker<'a, D, B, R, G> 
     }
 
     // The lock for a call, and whether it leads a group, which is laid ahead then. What waits with others must not hold it meanwhile.
-    fn come(&mut self, wished: &Option<Asked>) -> (Hold<'a, D, B>, bool)
+    fn come(
+        &mut self,
+        call: &CoreCall<'_, '_, '_>,
+        wished: &Option<Asked>,
+    ) -> (Hold<'a, D, B>, bool)
         ensures { self.new ≡ self.old }
     {
+        self.owing.pay(self.rt, &self.shared.waiting, call);
         if wished.is_some() {
             self.give_back();
         }
@@ -133,11 +141,12 @@ impl<'a, D: Disk, B: Origin<D>, R: Wait + Clock, G: Gate> Asker<'a, D, B, R, G> 
             self.is_idle = false;
             return;
         }
+        let others = self.shared.waiting.at_lock();
         let turn = end(self.rt, hold, Some(acted));
         if leads {
             self.shared.waiting.end(self.rt);
         }
-        self.tell(&turn);
+        self.tell(&turn, !leads && others > 0);
     }
 
     // The lock is given back, where it was kept.
@@ -145,15 +154,19 @@ impl<'a, D: Disk, B: Origin<D>, R: Wait + Clock, G: Gate> Asker<'a, D, B, R, G> 
         ensures { self.new ≡ self.old }
     {
         if let Some(hold) = self.hold.take() {
+            let others = self.shared.waiting.at_lock();
             let turn = end(self.rt, hold, None);
-            self.tell(&turn);
+            self.tell(&turn, others > 0);
         }
     }
 
-    // A turn has ended.
-    fn tell(&mut self, turn: &Turn)
+    // A turn has ended, of which something is owed or nothing.
+    fn tell(&mut self, turn: &Turn, owes: bool)
         ensures { self.new ≡ self.old }
     {
+        if owes {
+            self.owing.owe(self.rt, turn.held);
+        }
         self.waited = self.waited.max(turn.waited);
         self.held = self.held.max(turn.held);
         self.gate.after(self.pass.conversation(), turn);
@@ -172,7 +185,7 @@ impl<'a, D: Disk, B: Origin<D>, R: Wait + Clock, G: Gate> Ask for Asker<'a, D, B
         self.asked = self.asked.wrapping_add(1);
         let wished = wished_by(self.has_run, call);
         self.has_run = has_run_behind(self.has_run, call);
-        let (mut hold, leads) = self.come(&wished);
+        let (mut hold, leads) = self.come(call, &wished);
         let held = &mut *hold.guard;
         let reserved = self.share.set_aside(&self.shared.keeping, call);
         held.bound_rows(reserved);

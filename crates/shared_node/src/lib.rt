@@ -9,6 +9,7 @@ mod hold;
 mod keeping;
 pub mod lasting;
 mod origin;
+mod owing;
 mod returning;
 mod shared;
 mod turn;

@@ -9,6 +9,9 @@ const MOST_WITHOUT: u64 = 7;
 // For how many microseconds one waits at most: a device that stood still once is no reason to stand still again.
 const MOST_MICROS: u64 = 20_000;
 
+// A group that takes so many microseconds waits for slow syncs.
+const SLOW_MICROS: u64 = 500;
+
 /// For whom the leader of the next group waits: for as many wishes as the last group had, as had gathered when it ended, and as many as
 /// stood at the lock then; for as long as the last group took, 20 ms at most: where one of its syncs goes on beside statements, those who
 /// are not in it would else make a group of their own, and the two would wait for one another. Behind a wait in vain the next group is made
@@ -40,10 +43,11 @@ impl Returning {
     }
 
     /// The group is made, which took so many microseconds; so many wish already, and so many stand at the lock. One alone is not waited
-    /// for.
+    /// for, but where syncs are slow and another one wishes already: the two would take turns at the device.
     pub(crate) fn end(&mut self, gathered: usize, at_lock: usize, micros: u64) {
         self.micros = micros.min(MOST_MICROS);
-        self.wanted = if self.last > 1 || at_lock > 0 {
+        let take_turns = gathered > 0 && micros >= SLOW_MICROS;
+        self.wanted = if self.last > 1 || at_lock > 0 || take_turns {
             let others = gathered.saturating_add(at_lock);
             self.last.saturating_add(others).min(PLACES)
         } else {

@@ -153,8 +153,7 @@ impl Waiting {
         let mut guard = self.line.lock(rt);
         let line = &mut *guard;
         let micros = micros_between(line.taken_at, time(rt));
-        let gone = self.gone.load(Ordering::SeqCst);
-        let at_lock = self.came.load(Ordering::SeqCst).wrapping_sub(gone);
+        let at_lock = self.at_lock();
         let gathered = line.wishes.len();
         line.returning.end(gathered, at_lock as usize, micros);
         self.came.fetch_add(line.leave, Ordering::SeqCst);
@@ -166,6 +165,17 @@ impl Waiting {
         drop(guard);
         self.is_made(made).notify_all();
         self.is_made(gathers).notify_one();
+    }
+
+    /// How many calls have come to the lock so far.
+    pub(crate) fn come_so_far(&self) -> u64 {
+        self.came.load(Ordering::SeqCst)
+    }
+
+    /// How many stand at the lock.
+    pub(crate) fn at_lock(&self) -> u64 {
+        let gone = self.gone.load(Ordering::SeqCst);
+        self.come_so_far().wrapping_sub(gone)
     }
 
     /// A call that nobody wished for comes to the lock.

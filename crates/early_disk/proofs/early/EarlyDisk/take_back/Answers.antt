@@ -1,4 +1,4 @@
-use Rattle.std.specs.Prelude.{Bool, false, Option, Some}
+use Rattle.std.specs.Prelude.{false, Option, Some}
 use Rattle.std.proofs.Common.{subst}
 use Rattle.early_disk.specs.Early.{IsShown}
 use Rattle.early_disk.specs.declared.early.EarlyByte.{EarlyByte}
