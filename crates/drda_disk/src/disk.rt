@@ -80,17 +80,16 @@ pub trait Disk {
         ensures call { syncs self.old (is_ok result) self.new }
         ensures faults { CountsFault result (life self.old).faults (life self.new).faults };
 
-    /// By what is read, an image that a crash of the device may leave besides those of its `life`, where a byte is written early.
+    /// By an image of its `life` that a crash may leave, one that a crash of the device may leave besides, where a byte is written early.
     ghost allows: { List ℕ → List ℕ → Type 0 } = { λ _ _. Unit {0} };
 
     /// Writes the byte at an offset of the device ahead of its being written: a hint, and no more. All is as it was, to whoever reads
     /// and writes. Where the same byte is written there next, that needs no call of the device; any other write takes it back.
-    /// Meanwhile a crash of the device may leave any byte at its place. Nothing was written since the last sync. Whether it was
-    /// done: a disk does not by itself.
+    /// Meanwhile a crash of the device may leave any byte at its place, in each image that it may leave else. Whether it was done: a
+    /// disk does not by itself.
     fn write_early(&mut self, at: usize, byte: u8) -> Result<bool, DiskFault>
         requires inside { at + 1 ≤ length (life self.old).seen }
-        requires settled { IsTrue is_modelled → Only (life self.old) }
-        requires allowed { IsTrue is_modelled → (c : List ℕ) → Torn at 1 (life self.old).seen c → allows (life self.old).seen c }
+        requires allowed { IsTrue is_modelled → (d c : List ℕ) → Now (life self.old) d → Torn at 1 d c → allows d c }
         ensures stays { Stays (life self.old) (life self.new) }
         ensures faults { CountsFault result (life self.old).faults (life self.new).faults }
     {

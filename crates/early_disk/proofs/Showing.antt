@@ -10,7 +10,7 @@ use Rattle.drda_disk.proofs.Moments.{Only-stays, Stays-trans}
 use Rattle.drda_disk.proofs.Parts.{Torn-trans, part_outside}
 use Rattle.early_disk.specs.declared.early.EarlyByte.{EarlyByte}
 use Rattle.early_disk.specs.Shown.{LeftBy, LeftSince, Past, Shown, behind_sync, behind_write, first_shown, shown_life, since_earlier}
-use Rattle.early_disk.specs.Early.{Besides, HasLeft, WasSeen, IsAhead, LeavesNow, IsPlain, IsShown, Parts, Stands, life_of}
+use Rattle.early_disk.specs.Early.{Besides, HasLeft, IsSeen, WasSeen, IsAhead, LeavesNow, IsPlain, IsShown, Parts, Stands, life_of}
 
 module _ {D : Type 0} (modelled : Bool) (life : D → Life) (allows : List ℕ → List ℕ → Type 0) where
   -- ---- calls that write nothing
@@ -23,7 +23,6 @@ module _ {D : Type 0} (modelled : Bool) (life : D → Life) (allows : List ℕ �
     seen = subst (λ (l : List ℕ). Torn e.at 1 s.seen l) (sym stays.same) ahead.seen;
     written = λ is. stays.same ∙ ahead.written is;
     images = λ c now. ahead.images c (stays.no_more c now);
-    only = ahead.only;
     allowed = ahead.allowed;
   }
 
@@ -126,16 +125,15 @@ module _ {D : Type 0} (modelled : Bool) (life : D → Life) (allows : List ℕ �
   tears_early inner e is_settled s f f' was = record {
     time = elapses s inner f f';
     others = torn;
-    images = λ c now. (s.seen, (now.0, inl refl), from now.0 c now.1);
+    images = λ c now. ⊎_elim (λ same. (s.seen, (now.0, inl refl), subst (λ (l : List ℕ). Torn e.at 1 s.seen l) (sym same) torn))
+        (λ left. ⊎_elim (λ here. ⊎_elim (λ old. (c, (now.0, inl old), Torn-refl e.at 1 c)) (λ new. from now.0 c new) here.1) (λ there. (c, (now.0, inr there), Torn-refl e.at 1 c)) left) now.1;
   }
     where
       torn : Torn e.at 1 s.seen (behind_write modelled life s inner).seen
       torn = torn_behind s inner e.at 1 (λ is. (was.stands is).seen)
 
-      from : IsTrue modelled → (c : List ℕ) → (c ≡ (behind_write modelled life s inner).seen) ⊎ LeftBy modelled life (behind_write modelled life s inner).pasts s.moment c → Torn e.at 1 s.seen c
-      from is c either = ⊎_elim (λ same. subst (λ (l : List ℕ). Torn e.at 1 s.seen l) (sym same) torn)
-          (λ left. ⊎_elim (λ here. ⊎_elim (λ old. subst (λ (l : List ℕ). Torn e.at 1 s.seen l) (sym old) (Torn-refl e.at 1 s.seen)) (λ new. (was.stands is).images c new) here.1)
-          (λ there. subst (λ (l : List ℕ). Torn e.at 1 s.seen l) (sym ((was.stands is).only c there)) (Torn-refl e.at 1 s.seen)) left) either
+      from : IsTrue modelled → (c : List ℕ) → Now (life inner) c → (d : List ℕ) × Now (shown_life modelled life s f) d × Torn e.at 1 d c
+      from is c new = let old = (was.stands is).images c new in (old.0, (is, old.1), old.2)
 
   pub counted_as : (inner : D) (e : EarlyByte) (is_settled : Bool) (s : Shown D) → e.is_written ≡ true → IsShown modelled life allows inner (Some e) is_settled s
       → IsTrue modelled → (behind_write modelled life s inner).seen ≡ overlaid s.seen e.at (e.byte ∷ [])
@@ -149,7 +147,13 @@ module _ {D : Type 0} (modelled : Bool) (life : D → Life) (allows : List ℕ �
   stands_synced inner inner' None s stays only plain = record { seen = stays.same ∙ plain.seen; images = λ c now. inl (only c now ∙ stays.same ∙ plain.seen) }
   stands_synced inner inner' (Some e) s stays only ahead =
       let went = ahead_reads inner inner' e s stays ahead in
-      record { was = went.was; seen = went.seen; written = went.written; images = went.images; only = λ c left. ahead.only c (since_earlier modelled life s.pasts s.moment (s.moment + 1) c (omega arith) left); allowed = went.allowed }
+      record {
+        was = went.was;
+        seen = went.seen;
+        written = went.written;
+        images = λ c now. (s.seen, inl refl, subst (λ (l : List ℕ). Torn e.at 1 s.seen l) (sym (only c now)) went.seen);
+        allowed = λ d c is. went.allowed d c (⊎_elim (λ same. inl same) (λ left. inr (since_earlier modelled life s.pasts s.moment (s.moment + 1) d (omega arith) left)) is);
+      }
 
   pub shown_syncs : (inner inner' : D) (early : Option EarlyByte) (is_settled : Bool) (s : Shown D) → Stays (life inner) (life inner') → Only (life inner') → IsShown modelled life allows inner early is_settled s
       → IsShown modelled life allows inner' early true (behind_sync s)
@@ -176,13 +180,20 @@ module _ {D : Type 0} (modelled : Bool) (life : D → Life) (allows : List ℕ �
   pub stays_shown : (s : Shown D) (f f' : ℕ) → Stays (shown_life modelled life s f) (shown_life modelled life s f')
   stays_shown s f f' = record { later = omega arith; same = refl; no_more = λ c now. now; nothing_new = λ t c le left. left; keeps = λ t c le left. left }
 
+  was_seen : (s : Shown D) (c : List ℕ) → IsSeen modelled life s c → WasSeen modelled life s c
+  was_seen s c is = ⊎_elim (λ same. inl same) (λ left. inr (since_earlier modelled life s.pasts 0 s.moment c (omega arith) left)) is
+
   -- ---- a byte that is written early, and taken back
-  pub shown_early : (inner mid inner' : D) (is_settled : Bool) (s : Shown D) (e : EarlyByte) (f : ℕ) → IsShown modelled life allows inner None is_settled s → (IsTrue modelled → Only (shown_life modelled life s f))
+  besides : (s : Shown D) (at : ℕ) (c : List ℕ) → (d : List ℕ) × IsSeen modelled life s d × Torn at 1 d c → ((d c : List ℕ) → IsSeen modelled life s d → Torn at 1 d c → allows d c)
+      → WasSeen modelled life s c ⊎ ((base : List ℕ) × WasSeen modelled life s base × Besides modelled life allows base c)
+  besides s at c torn allowed = inr (torn.0, was_seen s torn.0 torn.1, ((at, torn.2), allowed torn.0 c torn.1 torn.2))
+
+  pub shown_early : (inner mid inner' : D) (is_settled : Bool) (s : Shown D) (e : EarlyByte) (f : ℕ) → IsShown modelled life allows inner None is_settled s
       → e.at + 1 ≤ length s.seen → Stays (life inner) (life mid) → (IsTrue modelled → part (life inner).seen e.at 1 ≡ e.was ∷ []) → Tears e.at 1 (life mid) (life inner')
-      → (IsTrue modelled → (c : List ℕ) → Torn e.at 1 s.seen c → allows s.seen c)
+      → (IsTrue modelled → (d c : List ℕ) → Now (shown_life modelled life s f) d → Torn e.at 1 d c → allows d c)
       → (e.is_written ≡ true → IsTrue modelled → (life inner').seen ≡ overlaid (life mid).seen e.at (e.byte ∷ []))
       → IsShown modelled life allows inner' (Some e) false s
-  shown_early inner mid inner' is_settled s e f was only inside stays read tears allowed written = record {
+  shown_early inner mid inner' is_settled s e f was inside stays read tears allowed written = record {
     size = tears.others.size ∙ ap length stays.same ∙ was.size;
     inside = inside;
     begins = omega (arith, was.begins, stays.later, tears.time.later);
@@ -193,20 +204,20 @@ module _ {D : Type 0} (modelled : Bool) (life : D → Life) (allows : List ℕ �
       seen = subst (λ (l : List ℕ). Torn e.at 1 l (life inner').seen) (same is) tears.others;
       written = λ done. written done is ∙ ap (λ (l : List ℕ). overlaid l e.at (e.byte ∷ [])) (same is);
       images = λ c now. torn is c now;
-      only = λ c left. only is c (is, inr left);
-      allowed = allowed is;
+      allowed = may is;
     };
     left = λ is c left. ⊎_elim (λ old. was.left is c (stays.nothing_new s.first c was.begins old))
-        (λ now. inr (s.seen, inl refl, ((e.at, torn is c now), allowed is c (torn is c now)))) (tears.time.nothing_else s.first c (omega (arith, was.begins, stays.later)) left);
+        (λ now. besides s e.at c (torn is c now) (may is)) (tears.time.nothing_else s.first c (omega (arith, was.begins, stays.later)) left);
   }
     where
+      may : IsTrue modelled → (d c : List ℕ) → IsSeen modelled life s d → Torn e.at 1 d c → allows d c
+      may is d c seen torn = allowed is d c (is, seen) torn
+
       same : IsTrue modelled → (life mid).seen ≡ s.seen
       same is = stays.same ∙ (was.stands is).seen
 
-      torn : IsTrue modelled → (c : List ℕ) → Now (life inner') c → Torn e.at 1 s.seen c
-      torn is c now =
-          let old = tears.images c now in
-          subst (λ (l : List ℕ). Torn e.at 1 l c) (only is old.0 (is, (was.stands is).images old.0 (stays.no_more old.0 old.1))) old.2
+      torn : IsTrue modelled → (c : List ℕ) → Now (life inner') c → (d : List ℕ) × IsSeen modelled life s d × Torn e.at 1 d c
+      torn is c now = let old = tears.images c now in (old.0, (was.stands is).images old.0 (stays.no_more old.0 old.1), old.2)
 
   -- with any byte in its place
   pub shown_again : (inner inner' : D) (e : EarlyByte) (is_settled : Bool) (s : Shown D) → Tears e.at 1 (life inner) (life inner') → IsShown modelled life allows inner (Some e) is_settled s
@@ -222,14 +233,16 @@ module _ {D : Type 0} (modelled : Bool) (life : D → Life) (allows : List ℕ �
       seen = Torn-trans e.at 1 s.seen (life inner).seen (life inner').seen (was.stands is).seen tears.others;
       written = λ done. absurd (false≢true done);
       images = λ c now. torn is c now;
-      only = (was.stands is).only;
       allowed = (was.stands is).allowed;
     };
-    left = λ is c left. ⊎_elim (λ old. was.left is c old) (λ now. inr (s.seen, inl refl, ((e.at, torn is c now), (was.stands is).allowed c (torn is c now)))) (tears.time.nothing_else s.first c was.begins left);
+    left = λ is c left. ⊎_elim (λ old. was.left is c old) (λ now. besides s e.at c (torn is c now) (was.stands is).allowed) (tears.time.nothing_else s.first c was.begins left);
   }
     where
-      torn : IsTrue modelled → (c : List ℕ) → Now (life inner') c → Torn e.at 1 s.seen c
-      torn is c now = let old = tears.images c now in Torn-trans e.at 1 s.seen old.0 c ((was.stands is).images old.0 old.1) old.2
+      torn : IsTrue modelled → (c : List ℕ) → Now (life inner') c → (d : List ℕ) × IsSeen modelled life s d × Torn e.at 1 d c
+      torn is c now =
+          let mid = tears.images c now in
+          let old = (was.stands is).images mid.0 mid.1 in
+          (old.0, old.1, Torn-trans e.at 1 old.0 mid.0 c old.2 mid.2)
 
   laid_back : (at : ℕ) (seen x : List ℕ) (was : ℕ) → Torn at 1 seen x → part seen at 1 ≡ was ∷ [] → overlaid x at (was ∷ []) ≡ seen
   laid_back at seen x was torn is =
@@ -270,9 +283,10 @@ module _ {D : Type 0} (modelled : Bool) (life : D → Life) (allows : List ℕ �
   pub now_left : (p : Parts D) → IsShown modelled life allows p.inner p.early p.is_settled p.shown → LeavesNow modelled life allows p
   now_left p was c is now = by p.early (was.stands is)
     where
-      by : (early : Option EarlyByte) → Stands modelled life allows p.inner early p.shown → Now (life_of modelled life p) c ⊎ Besides modelled life allows p.shown.seen c
+      by : (early : Option EarlyByte) → Stands modelled life allows p.inner early p.shown
+          → Now (life_of modelled life p) c ⊎ ((base : List ℕ) × Now (life_of modelled life p) base × Besides modelled life allows base c)
       by None plain = inl (is, plain.images c now)
-      by (Some e) ahead = inr ((e.at, ahead.images c now), ahead.allowed c (ahead.images c now))
+      by (Some e) ahead = let old = ahead.images c now in inr (old.0, (is, old.1), ((e.at, old.2), ahead.allowed old.0 c old.1 old.2))
 
   -- ---- what is read
   pub read_shown : (inner : D) (early : Option EarlyByte) (is_settled : Bool) (s : Shown D) → IsShown modelled life allows inner early is_settled s → IsTrue modelled → (at n : ℕ)

@@ -17,25 +17,28 @@ module _ {D : Type 0} (modelled : Bool) (life : D → Life) where
   abbrev pub life_of : Parts D → Life
   life_of p = shown_life modelled life p.shown (life p.inner).faults
 
-  -- it was read at some moment
+  -- it was read at some moment, or a crash may have left it then
   abbrev pub WasSeen : Shown D → List ℕ → Type 0
   WasSeen s c = (c ≡ s.seen) ⊎ LeftBy modelled life s.pasts 0 c
+
+  -- it is read, or a crash now may leave it
+  abbrev pub IsSeen : Shown D → List ℕ → Type 0
+  IsSeen s c = (c ≡ s.seen) ⊎ LeftBy modelled life s.pasts s.moment c
 
 -- what may be left besides, by what is read, is as `allows` says
 module _ {D : Type 0} (modelled : Bool) (life : D → Life) (allows : List ℕ → List ℕ → Type 0) where
   -- of a disk that gives back what was written: what stands on the disk inside while no byte is early
   pub record IsPlain (inner : D) (s : Shown D) : Type 0 where
     pub seen : (life inner).seen ≡ s.seen
-    pub images : (c : List ℕ) → Now (life inner) c → (c ≡ s.seen) ⊎ LeftBy modelled life s.pasts s.moment c
+    pub images : (c : List ℕ) → Now (life inner) c → IsSeen modelled life s c
 
   -- and while one is
   pub record IsAhead (inner : D) (e : EarlyByte) (s : Shown D) : Type 0 where
     pub was : part s.seen e.at 1 ≡ e.was ∷ []
     pub seen : Torn e.at 1 s.seen (life inner).seen
     pub written : e.is_written ≡ true → (life inner).seen ≡ overlaid s.seen e.at (e.byte ∷ [])
-    pub images : (c : List ℕ) → Now (life inner) c → Torn e.at 1 s.seen c
-    pub only : (c : List ℕ) → LeftBy modelled life s.pasts s.moment c → c ≡ s.seen
-    pub allowed : (c : List ℕ) → Torn e.at 1 s.seen c → allows s.seen c
+    pub images : (c : List ℕ) → Now (life inner) c → (d : List ℕ) × IsSeen modelled life s d × Torn e.at 1 d c
+    pub allowed : (d c : List ℕ) → IsSeen modelled life s d → Torn e.at 1 d c → allows d c
 
   abbrev pub Stands : D → Option EarlyByte → Shown D → Type 0
   Stands inner None s = IsPlain inner s
@@ -58,6 +61,6 @@ module _ {D : Type 0} (modelled : Bool) (life : D → Life) (allows : List ℕ �
     pub stands : IsTrue modelled → Stands inner early s
     pub left : IsTrue modelled → HasLeft inner s
 
-  -- a crash of the disk inside now leaves what one of what is shown may, or what may be left besides what is read
+  -- a crash of the disk inside now leaves what one of what is shown may, or what may be left besides that
   abbrev pub LeavesNow : Parts D → Type 0
-  LeavesNow p = (c : List ℕ) → IsTrue modelled → Now (life p.inner) c → Now (life_of modelled life p) c ⊎ Besides p.shown.seen c
+  LeavesNow p = (c : List ℕ) → IsTrue modelled → Now (life p.inner) c → Now (life_of modelled life p) c ⊎ ((base : List ℕ) × Now (life_of modelled life p) base × Besides base c)

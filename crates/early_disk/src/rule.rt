@@ -2,8 +2,8 @@
 
 ghost use Rattle.std.specs.Prelude.{List, ℕ};
 
-/// What may be left besides what is read, where a byte is written early.
+/// What may be left besides what a crash leaves else, where a byte is written early.
 pub trait EarlyRule {
-    /// By what is read, an image that a crash may leave then.
+    /// By an image that a crash may leave else, one that it may leave besides.
     ghost allows: { List ℕ → List ℕ → Type 0 };
 }

@@ -20,3 +20,10 @@ invariant_of-self-in_err-sync g c =
     let was = subst (λ (early : Option EarlyByte). IsShown {D = g.row.D.Denot} D.is_modelled D.life g.P.EarlyRule.allows c.self.inside.inner early c.self.inside.is_settled s) c.in-Some.is c.self.invariant in
     shown_reads D.is_modelled D.life g.P.EarlyRule.allows c.write_at.new.self c.sync.new.self (Some (record e { is_written = false })) false s c.in_err-sync.ensures.stays
     (shown_again D.is_modelled D.life g.P.EarlyRule.allows c.self.inside.inner c.write_at.new.self e c.self.inside.is_settled s c.in_ok-write_at.ensures.tears was)
+
+pub invariant_of-self : goal.invariant_of-self
+invariant_of-self g c =
+    let D = g.D.Disk in
+    let s = c.self.inside.shown.disk.value in
+    let was = subst (λ (early : Option EarlyByte). IsShown {D = g.row.D.Denot} D.is_modelled D.life g.P.EarlyRule.allows c.self.inside.inner early c.self.inside.is_settled s) c.in-Some.is c.self.invariant in
+    shown_again D.is_modelled D.life g.P.EarlyRule.allows c.self.inside.inner c.write_at.new.self c.in-Some.early c.self.inside.is_settled s c.write_at.ensures.tears was
