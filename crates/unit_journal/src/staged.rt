@@ -1,5 +1,5 @@
 //! A journal behind whose records a group may be laid ahead of being added.
-ghost use Rattle.std.specs.Prelude.{◌≡◌, ◌+◌, ◌≤◌, ◌∷◌, [], IsTrue, List, length, true, IfOk, OnOk, OnErr};
+ghost use Rattle.std.specs.Prelude.{◌≡◌, ◌⊎◌, ◌+◌, ◌≤◌, ◌∷◌, [], IsTrue, List, length, true, IfOk, IfSome, OnOk, OnErr};
 ghost use Rattle.drda_disk.specs.Region.{SameOutside, end_of};
 ghost use Rattle.drda_disk.specs.Disk.{LeavesOnly, Only, Stays, CountsFault};
 ghost use Rattle.unit_journal.specs.Adding.{MayAdd};
@@ -14,12 +14,15 @@ use drda_disk::{Disk, DiskFault, Flushed, OPEN_GATE, WriteError, write_through};
 
 /// A journal, and behind its records a group that may have been laid ahead of being added, behind its own closed gate: a
 /// crash leaves nothing of it. So its body can be flushed from outside, and where the same records are added next, the gate
-/// and its sync are left. At rest there is none, and nothing was written since the last sync.
+/// and its sync are left. Behind one that was flushed so a second group may be laid: one flush does then for the gate of the
+/// first and the body of the second. At rest there is none, and nothing was written since the last sync.
 #[derive(Drop)]
 pub struct Staged {
     pub(crate) journal: Journal,
     /// The group that was laid.
     pub(crate) ahead: Option<LaidGroup>,
+    /// The group that was laid behind that one, which had settled before.
+    pub(crate) behind: Option<LaidGroup>,
     /// Nothing was written since the last sync.
     pub(crate) is_settled: bool,
 }
@@ -37,7 +40,7 @@ fn sync_unless<D: Disk>(is_settled: bool, disk: &mut D) -> Result<(), DiskFault>
 }
 
 impl Staged {
-    ghost use Rattle.unit_journal.specs.Staged.{AddsBehind, IsAtRest, IsUnderWay, LiesBehind, MayOpenEarly, ahead_of, is_settled, journal_of, region_of};
+    ghost use Rattle.unit_journal.specs.Staged.{AddsBehind, IsAtRest, IsPlaceBehind, IsUnderWay, LiesThere, MayOpenEarly, ahead_of, behind_of, has_behind, is_settled, journal_of, next_of, region_of};
 
     /// A journal with nothing laid behind it.
     pub fn at_rest(journal: Journal) -> Staged
@@ -47,6 +50,7 @@ impl Staged {
         Staged {
             journal,
             ahead: None,
+            behind: None,
             is_settled: true,
         }
     }
@@ -104,9 +108,10 @@ impl Staged {
         self.journal.append_group(disk, group, hold, release)
     }
 
-    /// Lays a group behind the records, ahead of being added, by one write that is not synced, and tells whether it lies there:
-    /// exactly where it has room with `hold` more bytes held back and `release` fewer, at most all that the journal holds. It is
-    /// a hint: the records are those from before, and nothing is held back for it. What was laid before is given up.
+    /// Lays a group ahead of being added, by one write that is not synced, and tells whether it lies there: exactly where it
+    /// has room behind the records with `hold` more bytes held back and `release` fewer, at most all that the journal holds. It
+    /// lies behind the group that was laid before, where that is the only one and has settled, and behind the records else: then
+    /// what was laid before is given up. It is a hint: the records are those from before, and nothing is held back for it.
     pub fn lay_ahead<D: Disk>(
         &mut self,
         disk: &mut D,
@@ -120,18 +125,89 @@ impl Staged {
             LeavesOnly (D.life disk.old) (D.life disk.new) (IsBeforeOrAfterAll (region_of self.old) (D.life disk.old).seen es []) }
         ensures others { SameOutside (region_of self.old) (D.life disk.old).seen (D.life disk.new).seen }
         ensures journal { journal_of self.new ≡ journal_of self.old }
-        ensures lies { IfOk result (λ lies. LiesBehind lies (length (spelled group) + hold) release (room_of (journal_of self.old)) group (ahead_of self.new)) }
+        ensures lies { IfOk result (λ lies. LiesThere lies (length (spelled group) + hold) release (room_of (journal_of self.old)) group self.new) }
+        ensures cause { CountsFault result (D.life disk.old).faults (D.life disk.new).faults }
+    {
+        match self.journal.lacks(group.len(), hold, release) {
+            Some(_) => {
+                self.ahead = None;
+                self.behind = None;
+                return Ok(false);
+            }
+            None => {}
+        }
+        match self.place_behind(&group) {
+            Some(at) => self.lay_behind(disk, at, group)?,
+            None => self.lay_first(disk, group)?,
+        }
+        Ok(true)
+    }
+
+    // Where the body of a group would lie behind that of the one that was laid: there is one, which has settled, none behind it, and a place
+    // for both.
+    fn place_behind(&self, group: &LaidGroup) -> Option<usize>
+        ensures { IfSome result (λ at. IsPlaceBehind (length (spelled group.now)) self.now at) }
+    {
+        match (&self.ahead, &self.behind) {
+            (Some(ahead), None) if self.is_settled => self.place_over(ahead, group),
+            _ => None,
+        }
+    }
+
+    // Where the body of a group lies behind that of another one, if both have a place behind the records.
+    fn place_over(&self, ahead: &LaidGroup, group: &LaidGroup) -> Option<usize>
+        ensures { IfSome result (λ at. (at ≡ next_of self.now + 1 + length (spelled ahead.now)) × (at + length (spelled group.now) ≤ end_of (region_of self.now))) }
+    {
+        let next = self.journal.next + 1;
+        let left = self.journal.region.at + self.journal.region.length - next;
+        let (first, second) = (ahead.len(), group.len());
+        if first > left || second > left - first {
+            return None;
+        }
+        Some(next + first)
+    }
+
+    // Lays a group behind the one that was laid, there.
+    fn lay_behind<D: Disk>(
+        &mut self,
+        disk: &mut D,
+        at: usize,
+        group: LaidGroup,
+    ) -> Result<(), DiskFault>
+        requires place { IsPlaceBehind (length (spelled group)) self.old at }
+        requires inside { end_of (region_of self.old) ≤ length (D.life disk.old).seen }
+        ensures there { (es : List Entry) → IsUnderWay D.is_modelled (D.life disk.old) self.old es → OnOk result (IsUnderWay D.is_modelled (D.life disk.new) self.new es) }
+        ensures any_moment { (es : List Entry) → IsUnderWay D.is_modelled (D.life disk.old) self.old es →
+            LeavesOnly (D.life disk.old) (D.life disk.new) (IsBeforeOrAfterAll (region_of self.old) (D.life disk.old).seen es []) }
+        ensures others { SameOutside (region_of self.old) (D.life disk.old).seen (D.life disk.new).seen }
+        ensures journal { journal_of self.new ≡ journal_of self.old }
+        ensures lies { OnOk result (behind_of self.new ≡ group) }
+        ensures cause { CountsFault result (D.life disk.old).faults (D.life disk.new).faults }
+    {
+        self.is_settled = false;
+        disk.write_at(at, group.bytes())?;
+        self.behind = Some(group);
+        Ok(())
+    }
+
+    // Lays a group that has room behind the records.
+    fn lay_first<D: Disk>(&mut self, disk: &mut D, group: LaidGroup) -> Result<(), DiskFault>
+        requires fits { next_of self.old + 1 + length (spelled group) ≤ end_of (region_of self.old) }
+        requires inside { end_of (region_of self.old) ≤ length (D.life disk.old).seen }
+        ensures there { (es : List Entry) → IsUnderWay D.is_modelled (D.life disk.old) self.old es → OnOk result (IsUnderWay D.is_modelled (D.life disk.new) self.new es) }
+        ensures any_moment { (es : List Entry) → IsUnderWay D.is_modelled (D.life disk.old) self.old es →
+            LeavesOnly (D.life disk.old) (D.life disk.new) (IsBeforeOrAfterAll (region_of self.old) (D.life disk.old).seen es []) }
+        ensures others { SameOutside (region_of self.old) (D.life disk.old).seen (D.life disk.new).seen }
+        ensures journal { journal_of self.new ≡ journal_of self.old }
+        ensures lies { OnOk result (ahead_of self.new ≡ group) }
         ensures cause { CountsFault result (D.life disk.old).faults (D.life disk.new).faults }
     {
         self.ahead = None;
-        match self.journal.lacks(group.len(), hold, release) {
-            Some(_) => return Ok(false),
-            None => {}
-        }
+        self.behind = None;
         self.is_settled = false;
         disk.write_at(self.journal.next + 1, group.bytes())?;
         self.ahead = Some(group);
-        Ok(true)
+        Ok(())
     }
 
     /// The disk settles, by a flush from outside or by a sync. See `Disk::settle`.
@@ -160,13 +236,14 @@ impl Staged {
         ensures rest { OnOk result (IsAtRest self.new) }
     {
         self.ahead = None;
+        self.behind = None;
         sync_unless(self.is_settled, disk)?;
         self.is_settled = true;
         Ok(())
     }
 
-    /// Opens the gate of this group early, where it was laid, has room, and the disk has settled since: whether that was done. It is a
-    /// hint: all is as it was, and adding the group next needs no call of the device once the disk has settled again. Meanwhile a
+    /// Opens the gate of this group early, where it was laid first, has room, and the disk has settled since: whether that was done. It
+    /// is a hint: all is as it was, and adding the group next needs no call of the device once the disk has settled again. Meanwhile a
     /// crash of the device leaves the records, or those and all of the group. See `Disk::write_early`.
     pub fn open_early<D: Disk>(
         &self,
@@ -186,13 +263,23 @@ impl Staged {
             Some(_full) => return Ok(false),
             None => {}
         }
-        if !self.is_settled || !self.is_ahead(group) {
+        if !self.has_settled() {
+            return Ok(false);
+        }
+        if !self.is_ahead(group) {
             return Ok(false);
         }
         disk.write_early(self.journal.next, OPEN_GATE)
     }
 
-    // Whether this group was laid.
+    // Whether the group that was laid first has settled since.
+    fn has_settled(&self) -> bool
+        ensures { result ≡ true → (is_settled self.now ≡ true) ⊎ (has_behind self.now ≡ true) }
+    {
+        self.is_settled || self.behind.is_some()
+    }
+
+    // Whether this group was laid first.
     fn is_ahead(&self, group: &LaidGroup) -> bool
         ensures { result ≡ true → ahead_of self.now ≡ group.now }
     {
@@ -227,7 +314,7 @@ impl Staged {
             next: self.journal.next + len,
             held: self.journal.held - release + hold,
         };
-        self.ahead = None;
+        self.ahead = self.behind.take();
         Ok(())
     }
 }

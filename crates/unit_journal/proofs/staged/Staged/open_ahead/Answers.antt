@@ -4,7 +4,7 @@ use Rattle.drda_disk.proofs.Parts.{Torn-wider}
 use Rattle.drda_disk.proofs.Moments.{Only-stays}
 use Rattle.unit_journal.specs.Record.{AreShort}
 use Rattle.unit_journal.proofs.Laying.{short_all}
-use Rattle.unit_journal.proofs.Staging.{begins_at_rest, opening, was_opened}
+use Rattle.unit_journal.proofs.Staging.{opening, was_opened_before}
 use Rattle.unit_journal.proofs.staged.Staged.open_ahead.Goals as goal
 
 pub returns-in_err-write_through-clause-adds : goal.returns-in_err-write_through-clause-adds
@@ -32,9 +32,8 @@ returns-clause-adds g c =
     record {
       ok = λ es u.
           let short : AreShort c.args.group.now = short_all c.args.group.now (omega arith) in
-          begins_at_rest g.D.Disk.is_modelled (life c.write_through.new.disk) _ (record { none_ahead = refl; settled = refl }) (es ++ c.args.group.now)
-          (was_opened g.D.Disk.is_modelled (life c.args.disk.now) (life c.sync_unless.new.disk) old es c.args.group.now u c.requires.ahead stays c.bytes-len.result.now c.bytes-len.ensures.bytes short (omega arith)
-          (life c.write_through.new.disk) _ (c.in_ok-write_through.ensures.written u.modelled_disk) c.in_ok-write_through.ensures.durable refl refl);
+          was_opened_before g.D.Disk.is_modelled (life c.args.disk.now) (life c.sync_unless.new.disk) old es c.args.group.now u c.requires.ahead stays c.bytes-len.result.now c.bytes-len.ensures.bytes short (omega arith)
+          (life c.write_through.new.disk) _ (c.in_ok-write_through.ensures.written u.modelled_disk) c.in_ok-write_through.ensures.durable refl refl c.take.ensures.value c.take.ensures.after;
       any_moment = λ es u.
           let short : AreShort c.args.group.now = short_all c.args.group.now (omega arith) in
           opening g.D.Disk.is_modelled (life c.args.disk.now) (life c.sync_unless.new.disk) old es c.args.group.now u c.requires.ahead stays c.bytes-len.result.now c.bytes-len.ensures.bytes short (omega arith)
