@@ -8,8 +8,8 @@ use Rattle.std.specs.List.{AllByRecursion}
 use Rattle.half_store.specs.declared.header.Layout.{Layout}
 use Rattle.unit_journal.specs.Journal.{held_of, region_of, room_of}
 use Rattle.unit_journal.specs.declared.journal.Journal.{Journal}
-use Rattle.unit_journal.specs.Record.{laid}
-use Rattle.unit_journal.specs.Stands.{Stands}
+use Rattle.unit_journal.specs.Record.{Entry, laid}
+use Rattle.unit_journal.specs.Stands.{IsBeforeOrAfterAll, Stands}
 use Rattle.unit_records.specs.MadeRecords.{MadeRecords}
 use Rattle.unit_records.specs.Records.{UnitRecord, entry_of}
 use Rattle.unit_records.specs.Room.{held_by, released_by, taken_by}
@@ -99,18 +99,25 @@ module _ {D : Type 0} (modelled : Bool) (life : D → Life) (name : List ℕ) (a
 
     -- ---- the records count before they are made
 
+    -- an image that has the records and no others opens as what is read
+    shown_holds : GroupsOpen → (there : IsOnDisk modelled life name s r) → (image : List ℕ) → IsBeforeOrAfterAll (region_of (journal_of r)) (life (disk_of r)).seen there.entries [] image
+        → Holds name (layout_of r) (region_of (journal_of r)) there.entries (durable_part s) image
+    shown_holds opened there image shown =
+        ⊎_elim (λ before. before) (λ after. subst (λ (es : List Entry). Holds name (layout_of r) (region_of (journal_of r)) es (durable_part s) image) (append-nil there.entries) after)
+        (opened name (layout_of r) (region_of (journal_of r)) there.entries (durable_part s) (durable_part s) [] (life (disk_of r)).seen image there.holds tt tt refl (omega (arith, there.holds.room)) shown)
+
     pub early : GroupsOpen → (allows : List ℕ → List ℕ → Type 0) → (IsTrue modelled → LetsOpenEarly allows) → AllowsEarly modelled life allows r said
     early opened allows lets honest good less =
         let there = is.on_disk honest going in
         record {
           es = there.entries;
           there = there.settled;
-          allowed = λ c either. lets honest (life (disk_of r)).seen c (record {
+          allowed = λ base c shown either. lets honest base c (record {
             name = name;
             core = s;
             calls = cs;
             may = may;
-            opens = (layout_of r, region_of (journal_of r), there.entries, there.holds);
+            opens = (layout_of r, region_of (journal_of r), there.entries, shown_holds opened there base shown);
             either = ⊎_elim (λ before. inl (layout_of r, region_of (journal_of r), there.entries, before)) (λ after. inr (layout_of r, region_of (journal_of r), there.entries ++ map entry_of said, after))
                 (opened name (layout_of r) (region_of (journal_of r)) there.entries (durable_part s) (durable_part behind) said (life (disk_of r)).seen c there.holds good known leads (fit there less) either);
           });

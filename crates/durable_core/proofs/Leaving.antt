@@ -1,5 +1,5 @@
 -- What a disk leaves on which units count before they are made.
-use Rattle.std.proofs.Common.{◌⊎◌, inl, inr, ⊎_elim, Bool, List, ℕ, refl, subst}
+use Rattle.std.proofs.Common.{◌⊎◌, inl, inr, ⊎_elim, Bool, List, ℕ, subst}
 use Rattle.drda_disk.specs.Disk.{Life}
 use Rattle.early_disk.specs.Early.{Besides}
 use Rattle.unit_records.specs.Together.{all_made}
@@ -10,10 +10,10 @@ use Rattle.recovery.specs.Part.{durable_part}
 use Rattle.durable_core.specs.Ahead.{EarlyUnitsAreWhole, OpensBehind, OpensEarly}
 
 module _ {D : Type 0} (modelled : Bool) (life : D → Life) (one : OpensToOne) where
-  besides_opens : (name : List ℕ) (d : Durable) (seen c : List ℕ) → OpensTo name d seen → Besides modelled life OpensEarly seen c → OpensTo name d c ⊎ OpensBehind name d seen c
-  besides_opens name d seen c shown besides =
+  besides_opens : (name : List ℕ) (d : Durable) (base c : List ℕ) → OpensTo name d base → Besides modelled life OpensEarly base c → OpensTo name d c ⊎ OpensBehind name d base c
+  besides_opens name d base c shown besides =
       let early = besides.1 in
-      let same = one early.name name (durable_part early.core) d seen early.opens shown in
+      let same = one early.name name (durable_part early.core) d base early.opens shown in
       ⊎_elim (λ before. inl (subst (λ (n : List ℕ). OpensTo n d c) same.0 (subst (λ (part : Durable). OpensTo early.name part c) same.1 before)))
       (λ behind. inr (record {
         core = early.core;
@@ -27,4 +27,5 @@ module _ {D : Type 0} (modelled : Bool) (life : D → Life) (one : OpensToOne) w
 
   pub early_units_are_whole : EarlyUnitsAreWhole modelled life
   early_units_are_whole p name d is opens leaves c now =
-      ⊎_elim (λ shown. inl (opens c shown)) (λ besides. besides_opens name d p.shown.seen c (opens p.shown.seen (is, inl refl)) besides) (leaves c is now)
+      ⊎_elim (λ shown. inl (opens c shown)) (λ besides. ⊎_elim (λ before. inl before) (λ behind. inr (besides.0, besides.1, behind))
+      (besides_opens name d besides.0 c (opens besides.0 besides.1) besides.2)) (leaves c is now)

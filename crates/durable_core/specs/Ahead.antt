@@ -30,23 +30,24 @@ pub record OpensEarly (base image : List ℕ) : Type 0 where
   pub opens : OpensTo name (durable_part core) base
   pub either : OpensTo name (durable_part core) image ⊎ OpensTo name (durable_part (all_made calls core)) image
 
--- these may be left besides what is read
+-- these may be left besides each that a crash may leave else
 abbrev pub LetsOpenEarly : (List ℕ → List ℕ → Type 0) → Type 0
 LetsOpenEarly allows = (base image : List ℕ) → OpensEarly base image → allows base image
 
 -- An image opens to what is durable behind calls that a core may make together of which d is durable, all of them; but for one byte it is
--- what is read.
-pub record OpensBehind (name : List ℕ) (d : Durable) (seen image : List ℕ) : Type 0 where
+-- this one.
+pub record OpensBehind (name : List ℕ) (d : Durable) (base image : List ℕ) : Type 0 where
   pub core : CoreState
   pub durable : durable_part core ≡ d
   pub calls : List GroupCall
   pub may : may_make core calls ≡ true
   pub opens : OpensTo name (durable_part (all_made calls core)) image
   pub place : ℕ
-  pub one : Torn place 1 seen image
+  pub one : Torn place 1 base image
 
--- Where all that is shown opens to d, each image that the disk inside may leave opens to that, or behind calls that are made together.
+-- Where all that is shown opens to d, each image that the disk inside may leave opens to that, or, but for one byte an image that is shown,
+-- behind calls that are made together.
 abbrev pub EarlyUnitsAreWhole : {D : Type 0} → Bool → (D → Life) → Type 0
 EarlyUnitsAreWhole {D} modelled life =
     (p : Parts D) (name : List ℕ) (d : Durable) → IsTrue modelled → ((c : List ℕ) → Now (life_of modelled life p) c → OpensTo name d c) → LeavesNow modelled life OpensEarly p
-    → (c : List ℕ) → Now (life p.inner) c → OpensTo name d c ⊎ OpensBehind name d p.shown.seen c
+    → (c : List ℕ) → Now (life p.inner) c → OpensTo name d c ⊎ ((base : List ℕ) × Now (life_of modelled life p) base × OpensBehind name d base c)

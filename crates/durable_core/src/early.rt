@@ -2,7 +2,7 @@
 
 use early_disk::EarlyRule;
 
-/// The rule of a disk that a core lies over (`EarlyDisk`): besides what is read, a crash may leave an image that opens to what is durable
+/// The rule of a disk that a core lies over (`EarlyDisk`): besides what it leaves else, a crash may leave an image that opens to what is durable
 /// of a core to which that opens, or to that behind calls that it may make together, all of them.
 #[derive(Drop)]
 pub struct EarlyUnits {}

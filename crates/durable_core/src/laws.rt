@@ -26,7 +26,7 @@ pub fn damage_is_at_one_offset()
 }
 
 /// Of an `EarlyDisk` by the rule `EarlyUnits`, of which all that is shown opens to one state: each image that the disk inside may leave
-/// opens to that, or to what is durable behind calls that may be made together then, all of them, and is but for one byte what is read.
+/// opens to that, or to what is durable behind calls that may be made together then, all of them, and is but for one byte one that is shown.
 pub fn early_units_are_whole<D: Disk>()
     ensures { EarlyUnitsAreWhole D.is_modelled D.life }
 {
