@@ -16,7 +16,8 @@ use Rattle.shared_node.proofs.waiting.Waiting.TheSendSync as waiting_sends
 
 inside_send : (T B : RattleType) (g : Ghosts T.Denot) (o : origin.Ghosts B.Denot T.Denot) → IsSend T → IsSend (inside.the_row T B g o)
 inside_send T B g o s =
-    declared_send (inside.the_type T B g o) (book_send T g s, (Vec-send wish.the_row wish_sends.the_send, (search (sendable, crosses) depth 12, tt)))
+    declared_send (inside.the_type T B g o)
+    (book_send T g s, (Vec-send wish.the_row wish_sends.the_send, (Vec-send wish.the_row wish_sends.the_send, (search (sendable, crosses) depth 12, tt))))
 
 held_send : (T B : RattleType) (g : Ghosts T.Denot) (o : origin.Ghosts B.Denot T.Denot) → IsSend T → IsSend (held.the_row T B g o)
 held_send T B g o s = view_send (inside.the_row T B g o) _ _ _ _ (inside_send T B g o s)

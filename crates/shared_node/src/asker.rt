@@ -118,18 +118,18 @@ impl<'a, D: Disk, B: Origin<D>, R: Wait + Clock, G: Gate> Asker<'a, D, B, R, G> 
             Some(wished) => waiting.wish(self.rt, self.pass.wish(*wished)),
             None => {
                 waiting.come();
-                false
+                None
             }
         };
         let guard = shared.take(self.rt);
-        if !leads {
+        if leads.is_none() {
             waiting.go(self.rt);
         }
         let hold = Hold::new(self.rt, came, guard);
-        if leads {
-            return (lay_ahead(self.rt, shared, hold), true);
+        match leads {
+            Some(led) => (lay_ahead(self.rt, shared, hold, led), true),
+            None => (hold, false),
         }
-        (hold, false)
     }
 
     // Behind a call that was answered so the lock is kept, or given back.

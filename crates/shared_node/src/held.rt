@@ -7,17 +7,19 @@ use core_calls::CoreCall;
 use core_history::{Acted, Book, Pass, Wish};
 use drda_disk::{Disk, Flushed, Flusher};
 use std::marker::{Model, PhantomData};
+use std::mem::swap;
 use std::sync::Wait;
 use std::time::{Clock, Instant};
 use turns::Turn;
 use unit_records::Asked;
 
 /// What lies under the lock: the book, which was opened over a core of which this is known, and the wishes that the leader of a
-/// group has taken, a list that is used again. To clauses it is the book.
+/// group has taken, and those of the next group that are laid behind: lists that are used again. To clauses it is the book.
 #[derive(Drop)]
 pub(crate) struct Held<D: Disk, B: Origin<D>> {
     pub(crate) book: Book<D>,
     pub(crate) wishes: Vec<Wish>,
+    pub(crate) next: Vec<Wish>,
     pub(crate) origin: PhantomData<B>,
 }
 
@@ -51,13 +53,14 @@ impl<D: Disk, B: Origin<D>> Held<D, B> {
     ghost use Rattle.shared_node.specs.Turns.{MayFulfil, TakesTurn};
 
     /// The book lies there, and nothing is wished for.
-    pub(crate) fn new(book: Book<D>, wishes: Vec<Wish>) -> Held<D, B>
+    pub(crate) fn new(book: Book<D>, wishes: Vec<Wish>, next: Vec<Wish>) -> Held<D, B>
         requires origin { B.is book.opening }
         requires early { IsTrue D.is_modelled → LetsOpenEarly D.allows }
     {
         Held {
             book,
             wishes,
+            next,
             origin: PhantomData,
         }
     }
@@ -120,9 +123,13 @@ impl<D: Disk, B: Origin<D>> Held<D, B> {
         flusher
     }
 
-    /// What became of the flush of what was laid ahead. Where it lies there still, it counts on the disk before it is made, and what
-    /// flushes the disk is handed out.
-    pub(crate) fn open_early(&mut self, flushed: Flushed) -> Option<Flusher>
+    /// Has the group that is led count on the disk before it is made, where it lies there and the disk has settled since, and lays the next
+    /// group behind it, of all who wish by then: what flushes the disk, where it counts.
+    pub(crate) fn open_early<R: Wait + Clock>(
+        &mut self,
+        rt: &R,
+        waiting: &Waiting,
+    ) -> Option<Flusher>
         ensures lays { LaysAhead self.old self.new }
         ensures was_kept { IsKept D.is_modelled D.life self.old }
         ensures is_kept { IsKept D.is_modelled D.life self.new }
@@ -131,8 +138,9 @@ impl<D: Disk, B: Origin<D>> Held<D, B> {
     {
         recovery::laws::calls_go_on::<D>();
         self.book.is_kept();
+        waiting.take_next(rt, &mut self.next);
         let book = &mut self.book;
-        book.settle(flushed);
+        lay_behind(book, &self.next);
         let flusher = book.open_early(&self.wishes);
         self.book.is_kept();
         flusher
@@ -229,8 +237,8 @@ impl<D: Disk, B: Origin<D>> Held<D, B> {
         self.book.act(pass, call)
     }
 
-    // Makes together what was taken, for who leads, who alone may, since what is laid ahead waits there for its flush. Nothing is made
-    // where a wish at the pass's place is none of its own.
+    // Makes together what was taken, for who leads, who alone may, since what is laid ahead waits there for its flush; the next to lead finds
+    // what was laid behind. Nothing is made where a wish at the pass's place is none of its own.
     fn fulfil(&mut self, pass: &Pass, wished: &Asked, leads: bool)
         ensures fulfils { MayFulfil D.life self.old self.new }
         ensures stands { Stands self.old pass.now wished.now → Stands self.new pass.now wished.now }
@@ -241,6 +249,7 @@ impl<D: Disk, B: Origin<D>> Held<D, B> {
         if leads {
             fulfil_where_fair(&mut self.book, &self.wishes, pass, wished);
             self.wishes.clear();
+            swap(&mut self.wishes, &mut self.next);
         }
     }
 }
@@ -251,6 +260,19 @@ ghost use Rattle.core_history.specs.Passes.{Rests};
 ghost use Rattle.recovery.specs.Journaled.{Journaled, shown_on};
 ghost use Rattle.shared_node.specs.Standing.{Stands};
 ghost use Rattle.shared_node.specs.Turns.{MayFulfil};
+
+// Lays what is wished for behind what lies ahead, if anything is.
+fn lay_behind<D: Disk>(book: &mut Book<D>, wishes: &[Wish])
+    ensures rests { Rests book.old.core book.new.core }
+    ensures rest { book.new ≡ record book.old { core = book.new.core } }
+    ensures journaled { Journaled D.is_modelled (shown_on D.life book.old.core) (shown_on D.life book.new.core) }
+{
+    recovery::laws::calls_go_on::<D>();
+    book.core().is_durable();
+    if !wishes.is_empty() {
+        let _laid = book.lay_ahead(wishes);
+    }
+}
 
 // Behind a loss, and behind a group, a checkpoint is considered.
 fn rest_behind<D: Disk>(book: &mut Book<D>, call: &CoreCall<'_, '_, '_>, leads: bool)

@@ -6,8 +6,9 @@ use crate::held::Held;
 use crate::origin::Origin;
 use crate::shared::Shared;
 use crate::turn::{Begun, full_of, time};
+use crate::waiting::Led;
 use core_history::Acted;
-use drda_disk::{Disk, Flushed};
+use drda_disk::{Disk, Flusher};
 use std::sync::{MutexGuard, Wait};
 use std::time::{Clock, Instant};
 use turns::Turn;
@@ -32,9 +33,26 @@ impl<'a, D: Disk, B: Origin<D>> Hold<'a, D, B> {
     }
 }
 
-/// Lays the group that is led ahead of being made, and has it count on the disk, a step each, behind which the disk is flushed. Where a step
-/// was taken, the lock is given back meanwhile, and then held again; else it is held still.
+/// Lays the group that is led ahead of being made, where it does not lie there, and has it count on the disk, with the next group behind it: a
+/// step each, behind which the disk is flushed. Where a step was taken, the lock is given back meanwhile, and then held again; else it is held
+/// still.
 pub(crate) fn lay_ahead<'a, D: Disk, B: Origin<D>, R: Wait + Clock>(
+    rt: &R,
+    shared: &'a Shared<D, B>,
+    hold: Hold<'a, D, B>,
+    led: Led,
+) -> Hold<'a, D, B>
+    ensures { UnderLock D.is_modelled D.life B.is LaysAhead }
+{
+    match led {
+        Led::Laid => {}
+        Led::Gathered => return lay_first(rt, shared, hold),
+    }
+    open_early(rt, shared, hold)
+}
+
+// The group that is led is laid behind all that counts on the disk, and counts there once that is flushed.
+fn lay_first<'a, D: Disk, B: Origin<D>, R: Wait + Clock>(
     rt: &R,
     shared: &'a Shared<D, B>,
     hold: Hold<'a, D, B>,
@@ -46,43 +64,39 @@ pub(crate) fn lay_ahead<'a, D: Disk, B: Origin<D>, R: Wait + Clock>(
     let Some(flusher) = held.lay_ahead(rt, &shared.waiting) else {
         return Hold { guard, begun };
     };
-    let begun = begun.pause(rt);
-    drop(guard);
-    let flushed = flusher.flush();
-    open_early(rt, shared, begun, flushed)
+    let hold = flush(rt, shared, Hold { guard, begun }, flusher);
+    open_early(rt, shared, hold)
 }
 
-// The lock is taken again, and what was laid ahead counts on the disk before it is made.
+// What lies there counts on the disk before it is made, and what is flushed with it lies behind it.
 fn open_early<'a, D: Disk, B: Origin<D>, R: Wait + Clock>(
     rt: &R,
     shared: &'a Shared<D, B>,
-    begun: Begun,
-    flushed: Flushed,
+    hold: Hold<'a, D, B>,
 ) -> Hold<'a, D, B>
     ensures { UnderLock D.is_modelled D.life B.is LaysAhead }
 {
-    let came = time(rt);
-    let mut guard = shared.take(rt);
+    let Hold { mut guard, begun } = hold;
     let held = &mut *guard;
-    let begun = begun.resume(rt, came, &held.book);
-    let Some(flusher) = held.open_early(flushed) else {
+    let Some(flusher) = held.open_early(rt, &shared.waiting) else {
         return Hold { guard, begun };
     };
+    flush(rt, shared, Hold { guard, begun }, flusher)
+}
+
+// The lock is given back while the disk is flushed, and held again; the disk is told what became of it.
+fn flush<'a, D: Disk, B: Origin<D>, R: Wait + Clock>(
+    rt: &R,
+    shared: &'a Shared<D, B>,
+    hold: Hold<'a, D, B>,
+    flusher: Flusher,
+) -> Hold<'a, D, B>
+    ensures { UnderLock D.is_modelled D.life B.is LaysAhead }
+{
+    let Hold { guard, begun } = hold;
     let begun = begun.pause(rt);
     drop(guard);
     let flushed = flusher.flush();
-    settle(rt, shared, begun, flushed)
-}
-
-// The lock is taken again, and the disk is told what became of the flush.
-fn settle<'a, D: Disk, B: Origin<D>, R: Wait + Clock>(
-    rt: &R,
-    shared: &'a Shared<D, B>,
-    begun: Begun,
-    flushed: Flushed,
-) -> Hold<'a, D, B>
-    ensures { UnderLock D.is_modelled D.life B.is LaysAhead }
-{
     let came = time(rt);
     let mut guard = shared.take(rt);
     let held = &mut *guard;

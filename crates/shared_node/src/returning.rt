@@ -13,12 +13,12 @@ const MOST_MICROS: u64 = 20_000;
 const SLOW_MICROS: u64 = 500;
 
 /// For whom the leader of the next group waits: for as many wishes as the last group had, as had gathered when it ended, and as many as
-/// stood at the lock then; for as long as the last group took, 20 ms at most: where one of its syncs goes on beside statements, those who
-/// are not in it would else make a group of their own, and the two would wait for one another. Behind a wait in vain the next group is made
-/// without one, behind the next 3 groups, then 7, until one is met. No contract says anything of it.
+/// stood at the lock then; for three fifths of the time that the last group took, 20 ms at most. Where all come back so soon, one group has
+/// all of them, which is faster than two that wait for one another; where they take longer, the next group is laid while one counts early.
+/// Behind a wait in vain the next group is made without one, behind the next 3 groups, then 7, until one is met. No contract says anything
+/// of it.
 #[derive(Clone, Copy)]
 pub(crate) struct Returning {
-    last: usize,
     wanted: usize,
     micros: u64,
     without: u64,
@@ -29,7 +29,6 @@ impl Returning {
     /// Nobody is waited for.
     pub(crate) fn new() -> Returning {
         Returning {
-            last: 0,
             wanted: 0,
             micros: 0,
             without: 0,
@@ -37,19 +36,14 @@ impl Returning {
         }
     }
 
-    /// A group has so many wishes.
-    pub(crate) fn take(&mut self, wishes: usize) {
-        self.last = wishes;
-    }
-
-    /// The group is made, which took so many microseconds; so many wish already, and so many stand at the lock. One alone is not waited
+    /// A group of so many wishes is made, which took so many microseconds; so many wish already, and so many stand at the lock. One alone is not waited
     /// for, but where syncs are slow and another one wishes already: the two would take turns at the device.
-    pub(crate) fn end(&mut self, gathered: usize, at_lock: usize, micros: u64) {
-        self.micros = micros.min(MOST_MICROS);
+    pub(crate) fn end(&mut self, last: usize, gathered: usize, at_lock: usize, micros: u64) {
+        self.micros = (micros / 5).saturating_mul(3).min(MOST_MICROS);
         let take_turns = gathered > 0 && micros >= SLOW_MICROS;
-        self.wanted = if self.last > 1 || at_lock > 0 || take_turns {
+        self.wanted = if last > 1 || at_lock > 0 || take_turns {
             let others = gathered.saturating_add(at_lock);
-            self.last.saturating_add(others).min(PLACES)
+            last.saturating_add(others).min(PLACES)
         } else {
             0
         };

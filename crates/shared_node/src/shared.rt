@@ -58,9 +58,12 @@ impl<D: Disk, B: Origin<D>> Shared<D, B> {
         let Ok(wishes) = Vec::with_capacity(alloc, PLACES) else {
             return Err(core);
         };
+        let Ok(next) = Vec::with_capacity(alloc, PLACES) else {
+            return Err(core);
+        };
         let book = Book::open(alloc, core)?;
         Ok(Shared {
-            held: Mutex::new(Held::new(book, wishes)),
+            held: Mutex::new(Held::new(book, wishes, next)),
             waiting,
             keeping: Keeping::new(all_bytes),
         })

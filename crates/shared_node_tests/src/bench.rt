@@ -109,7 +109,7 @@ impl<'r, R: Wait + Clock> Calls for Bench<'r, R> {
             "holds" | "writes" | "back" | "consider" | "close" => {
                 self.locks.tell(self.rt, verb, rest, out)
             }
-            "wish" | "lay" | "early" | "settle" | "gather" | "collect" => self
+            "wish" | "lay" | "early" | "settle" | "aside" | "gather" | "collect" => self
                 .desks
                 .tell_of_groups(verb, rest, out),
             _ => self.desks.tell(verb, rest, out),

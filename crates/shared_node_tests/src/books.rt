@@ -22,6 +22,7 @@ pub struct Desks {
     pub(crate) book: Option<Book<Device>>,
     pub(crate) passes: Vec<Option<Pass>>,
     pub(crate) wishes: Vec<Wish>,
+    pub(crate) aside: Vec<Wish>,
     pub(crate) flushed: Option<Flushed>,
     strangers: u64,
 }
@@ -55,6 +56,7 @@ impl Desks {
             book: None,
             passes: Vec::new(alloc),
             wishes: Vec::new(alloc),
+            aside: Vec::new(alloc),
             flushed: None,
             strangers: 0,
         }
@@ -70,6 +72,7 @@ impl Desks {
     pub fn forget(&mut self) {
         self.passes.clear();
         self.wishes.clear();
+        self.aside.clear();
         self.flushed = None;
     }
 

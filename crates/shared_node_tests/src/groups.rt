@@ -3,6 +3,7 @@
 use crate::books::{Desks, place_of};
 use core_calls::Answer;
 use std::alloc::Global;
+use std::mem::swap;
 use test_calls::{push_answer, push_text, xid_of};
 use unit_records::{Asked, Phase};
 use xa_manager::Decision;
@@ -106,6 +107,10 @@ impl Desks {
             "lay" => push_text(out, self.lay()?),
             "early" => push_text(out, self.count_early()?),
             "settle" => push_text(out, self.settle()?),
+            "aside" => {
+                swap(&mut self.wishes, &mut self.aside);
+                push_text(out, "aside")
+            }
             _ => {
                 self.gather()?;
                 push_text(out, "gathered")
@@ -114,10 +119,11 @@ impl Desks {
     }
 
     /// `wish N` is the wish of a pass to commit, and `wish N VERB XID` for a phase of a branch; `lay` lays ahead what was wished for and
-    /// flushes it, `early` has it count and flushes that, and `settle` tells the book of a flush; `gather` makes it together, and `collect N`,
+    /// flushes it, `early` has it count and flushes that, and `settle` tells the book of a flush; `aside` puts these wishes and those that were put
+    /// aside before in each other's place; `gather` makes it together, and `collect N`,
     /// or `collect N VERB XID`, gives what is left for a pass.
     pub fn tell_of_groups(&mut self, verb: &str, rest: &str, out: &mut Vec<u8>) -> Option<()> {
-        if matches!(verb, "lay" | "early" | "settle" | "gather") {
+        if matches!(verb, "lay" | "early" | "settle" | "aside" | "gather") {
             return self.tell_of_all(verb, out);
         }
         let (number, wished) = wish_in(self.alloc, rest)?;

@@ -8,7 +8,8 @@ use crate::talks::{Checker, Talk, Tape};
 use conversation::Settings;
 use drda_disk::MemDisk;
 use drda_program::{Failure, Rules, Silent, Streams, serve_streams};
-use durable_core::{DurableCore, open};
+use durable_core::{DurableCore, EarlyUnits, open};
+use early_disk::EarlyDisk;
 use shared_node::{Book, Shared};
 use std::alloc::Global;
 use std::marker::{Brand, Sync};
@@ -17,8 +18,8 @@ use std::thread::{Threads, yield_now};
 use std::time::Clock;
 use test_core::fresh_store;
 
-/// A disk in memory that may stand in its syncs.
-pub type Stood<'r> = StandingDisk<'r, MemDisk>;
+/// A disk in memory that may stand in its syncs, and writes early.
+pub type Stood<'r> = EarlyDisk<StandingDisk<'r, MemDisk>, EarlyUnits>;
 
 /// A core over such a disk.
 pub type Core<'r> = DurableCore<Stood<'r>>;
@@ -34,10 +35,8 @@ pub struct House<'r, R> {
 
 impl<'r, R> House<'r, R> {
     fn opened(&self, disk: MemDisk) -> Option<Core<'r>> {
-        match open(
-            self.alloc,
-            StandingDisk::new(self.files, self.alloc, self.board, disk),
-        ) {
+        let stood = StandingDisk::new(self.files, self.alloc, self.board, disk);
+        match open(self.alloc, EarlyDisk::new(stood)) {
             Ok(core) => Some(core),
             Err(_) => None,
         }
@@ -51,7 +50,7 @@ impl<'r, R> House<'r, R> {
     /// What is opened of a core's disk behind a crash, which leaves of each write that was not synced what `pick` says. None
     /// without memory.
     pub fn crashed(&self, core: Core<'r>, pick: u64) -> Option<Core<'r>> {
-        self.opened(core.into_disk().into_inner().after_crash(pick))
+        self.opened(core.into_disk().into_inner().into_inner().after_crash(pick))
     }
 }
 

@@ -1,5 +1,5 @@
 use Rattle.shared_node.proofs.Locking.{lays_ahead}
-use Rattle.shared_node.proofs.hold.lay_ahead.Goals as goal
+use Rattle.shared_node.proofs.hold.lay_first.Goals as goal
 
 pub returns-in_default : goal.returns-in_default
 returns-in_default g c =
